@@ -17,7 +17,7 @@ test-all:
 test-batched:
 	python3 -m tests.gate.run --batched
 
-# The same, without the edits of crates that are the same as they landed, but for a tenth of these crates by turns.
+# The same, without the edits of crates that are the same as they landed, but for a tenth of these by turns, and 400 edits at most.
 test-by-turns:
 	python3 -m tests.gate.run --by-turns
 

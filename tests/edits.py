@@ -10,8 +10,8 @@ edit is tried alone. An edit whose reach isn't known (of a clause, a type, a def
 
 Nothing is proved here but what is edited. The crates themselves are proved elsewhere: --proved names a copy of this repository in which
 `rt ci` has just run, or with --follow still runs: standard input then names each crate that it has proved, and a crate's edits are tried once its own name
-and those of the crates below it have come. Without --proved, what isn't proved in this repository is proved first. With --by-turns, crates that are the same
-as they landed are tried in one run of ten (tests/landed.py). The last line is `N passed, M failed`."""
+and those of the crates below it have come. Without --proved, what isn't proved in this repository is proved first. With --by-turns, as many are
+tried as a run has time for, and of crates that are the same as they landed a tenth (tests/turns.py). The last line is `N passed, M failed`."""
 
 import argparse
 import difflib
@@ -36,6 +36,7 @@ from answers import Answer, Strength
 from following import Following, give_way
 from landed import Landed
 from sources import Sources
+from turns import left_out, past_the_most
 
 
 @dataclass
@@ -320,17 +321,16 @@ def trials(kit, crates, options):
 
 
 def those_of_this_run(found, crates, landed):
-    """Those of the trials whose turn it is, or whose crates aren't as they landed. It says which are left out."""
+    """Those of the trials whose turn it is, or whose verdicts may be others than they were (tests/turns.py). It says which are left out."""
     landed, why = landed
-    if not landed:
-        print(f"all edits are tried: {why}", flush=True)
-        return found
-    places = {it.name: place for place, it in enumerate(crates)}
-    left = [it for it in found if landed.waits(it.crate, places[it.crate.name])]
-    for it in left:
-        print(f"{it.crate.name}: as it landed with {landed.commit[:7]}, so its {len(it.edits)} edits have their turn {landed.runs_until(places[it.crate.name])} runs from now")
-    print(f"{sum(len(it.edits) for it in left)} edits of {len(left)} crates are not tried in this run", flush=True)
-    return [it for it in found if it not in left]
+    if not landed or landed.anew:
+        print(f"the edits of all crates are due: {why if not landed else landed.anew}")
+    left = {it.crate: it for it in (left_out(crates, landed) if landed else past_the_most((it.crate.name, len(it.edits)) for it in found))}
+    for it in left.values():
+        print(f"{it.crate}: {it.says}")
+    out = [it for it in found if it.crate.name in left]
+    print(f"{sum(len(it.edits) for it in out)} edits of {len(out)} crates are not tried in this run", flush=True)
+    return [it for it in found if it.crate.name not in left]
 
 
 def stands(trial, after_ci):
@@ -363,7 +363,7 @@ def options_of(words):
     parser.add_argument("--proved", help="a copy of the repository in which `rt ci` has just run")
     parser.add_argument("--follow", type=int, metavar="N", help="`rt ci` still runs there, with N crates at a time; standard input names those proved, one a line")
     parser.add_argument("--edits", help="the repository whose edits are tried, if it isn't this one")
-    parser.add_argument("--by-turns", action="store_true", help="leave out, in nine runs of ten, crates that are the same as they landed")
+    parser.add_argument("--by-turns", action="store_true", help="leave out crates that are the same as they landed, but for a tenth, and those for which there is no time")
     parser.add_argument("--at-once", type=int, help="how many crates are tried at a time")
     parser.add_argument("--alone", action="store_true", help="try each edit by itself")
     parser.add_argument("--plan", action="store_true", help="only print the batches, and which edits can't be made")

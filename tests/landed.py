@@ -1,24 +1,25 @@
 """Which crates' edits can't have another verdict than they had as the main line last landed: `landed.py COMMIT` writes down that this commit has landed.
 
-tests/landed.txt names the commit, the kit that it landed with, and the number of the run that comes next. A commit lands only where the gate passes on it: so of each
-of its edits it is known, from that run or one before, that the prover refuses it. An edit's verdict rests on its text, on the files of its crate, on what these name of what the crates below
-show (tests/reach.py), on the kit and on the scripts that try it. Where all of these are the same, the edits of a crate are tried in one run of ten, and in every run otherwise. docs/GATE.md says
-what that leaves open."""
+tests/landed.txt names the commit, the kit that it landed with, the number of the run that comes next, and the crates whose edits wait. A commit lands only where the gate passes on it: so of each
+of its edits it is known, from that run or one before, that the prover refuses it, but of those that wait. An edit's verdict rests on its text, on the files of its crate, on what these name of
+what the crates below show (tests/reach.py), on the kit and on the scripts that try it. Where all of these are the same, the edits of a crate are tried by turns (tests/turns.py). docs/GATE.md
+says what that leaves open."""
 
+import contextlib
 import hashlib
 import os
 import re
 import subprocess
 import sys
+import tempfile
 
 from reach import NAMELESS, differences, pieces_of, spread, words
 from sources import without_bodies
+from turns import left_out
 
 ROOT = os.path.dirname(os.path.dirname(os.path.abspath(__file__)))
 NOTE = os.path.join("tests", "landed.txt")
-FIELD = re.compile(r"^(run|commit|kit): (\S.*)$", re.M)
-# in one run of so many the edits of a crate are tried though nothing has changed
-TURNS = 10
+FIELD = re.compile(r"^(run|commit|kit|waiting): (\S.*)$", re.M)
 # what says whether an edit is refused; which are tried is another matter
 SCRIPTS = ("tests/edits.py", "tests/answers.py", "tests/sources.py", "tools/kit.py")
 SHOWN_PARTS = ("src", "specs", "proofs")
@@ -46,15 +47,19 @@ def read(file):
 class Landed:
     """The tree that landed last, as git has it in this repository. Make it by `of`."""
 
-    def __init__(self, root, run, commit, blobs):
-        self.root, self.run, self.commit, self.blobs = root, run, commit, blobs
+    def __init__(self, root, fields, blobs, kit):
+        self.root, self.run, self.commit, self.blobs = root, int(fields["run"]), fields["commit"], blobs
+        # the crates whose edits weren't tried since their verdicts may be others
+        self.waiting = fields.get("waiting", "").split()
+        # why any edit may have another verdict, or nothing
+        self.anew = f"another kit: {kit}" if fields.get("kit") != kit else next((f"{it} has changed" for it in SCRIPTS if not self.has(it)), "")
         self.listed_then, self.listed_now = self.text("crates.txt"), read(os.path.join(root, "crates.txt")).decode()
         # the names that have changed in a crate, by its name
         self.changed = {}
 
     @classmethod
     def of(cls, root, kit):
-        """The landed tree that the note names, or None, and why none counts: without one, every edit is tried."""
+        """The landed tree that the note names, or None, and why none counts: without one, the edits of all crates are due."""
         try:
             fields = dict(FIELD.findall(read(os.path.join(root, NOTE)).decode()))
         except OSError:
@@ -62,16 +67,12 @@ class Landed:
         run, commit = fields.get("run", ""), fields.get("commit", "")
         if not run.isdigit() or not re.fullmatch(r"[0-9a-f]{40}", commit):
             return None, f"{NOTE} names no run and no commit"
-        if fields.get("kit") != kit:
-            return None, f"another kit: {kit}"
         # what didn't come before this tree says nothing of it
         if git(root, "merge-base", "--is-ancestor", commit, "HEAD") is None:
             return None, f"{commit} isn't in this tree's history here"
         listed = git(root, "ls-tree", "-r", "-z", commit)
         blobs = dict(reversed(it.split("\t", 1)) for it in (listed or b"").decode().split("\0") if it)
-        landed = cls(root, int(run), commit, {path: it.split()[2] for path, it in blobs.items()})
-        changed = next((it for it in SCRIPTS if not landed.has(it)), None)
-        return (None, f"{changed} has changed") if changed else (landed, "")
+        return cls(root, fields, {path: it.split()[2] for path, it in blobs.items()}, kit), ""
 
     def has(self, path):
         """Whether the file is the same here as it was."""
@@ -95,8 +96,13 @@ class Landed:
         return sorted(found)
 
     def has_own(self, name):
-        """Whether a crate's files are the same, its edits among them, but for rows that are comments."""
-        return all(self.has(it) or self.differs_in_comments(it) for it in self.files(name, OWN_PARTS))
+        """Whether a crate's files are the same, its edits among them, but for rows that are comments, and the crates that it stands on."""
+        same_line = line_of(name, self.listed_then) == line_of(name, self.listed_now)
+        return same_line and all(self.has(it) or self.differs_in_comments(it) for it in self.files(name, OWN_PARTS))
+
+    def edits_of(self, name):
+        """How many edits a crate has."""
+        return sum(it.endswith(".edit") for it in listed(os.path.join(self.root, "crates", name, "must-fail")))
 
     def differs_in_comments(self, path):
         """Whether a file that has changed has the same rows where they are no comments."""
@@ -152,17 +158,12 @@ class Landed:
         return any(words(self.both(it)[1] or "") & changed for it in self.files(crate.name, OWN_PARTS))
 
     def is_same(self, crate):
-        """Whether the edits of a crate can't have another verdict than they had."""
-        same_line = line_of(crate.name, self.listed_then) == line_of(crate.name, self.listed_now)
-        return same_line and self.has_own(crate.name) and not self.names(crate, self.changed_below(crate))
+        """Whether what the verdicts on a crate's edits rest on is the same, but for the kit and the scripts."""
+        return self.has_own(crate.name) and not self.names(crate, self.changed_below(crate))
 
-    def waits(self, crate, place):
-        """Whether the edits of a crate needn't be tried in this run. Its place is that among all crates."""
-        return (place - self.run) % TURNS != 0 and self.is_same(crate)
 
-    def runs_until(self, place):
-        """How many runs from now the crate at this place is tried though it is the same."""
-        return (place - self.run) % TURNS
+def listed(folder):
+    return os.listdir(folder) if os.path.isdir(folder) else []
 
 
 def line_of(name, listed):
@@ -171,11 +172,36 @@ def line_of(name, listed):
     return found and found[0].split()
 
 
-def write_down(root, commit, kit):
-    """Notes that a commit has landed: the next run is one more than the last."""
+def write_down(root, commit, kit, waiting=()):
+    """Notes that a commit has landed, and which crates' edits weren't tried there though they were due: the next run is one more than the last."""
     fields = dict(FIELD.findall(read(os.path.join(root, NOTE)).decode()))
+    rows = [
+        "What landed last: its edits were tried but for those that wait, and those of crates that are the same since are tried by turns (docs/GATE.md).",
+        f"run: {int(fields['run']) + 1}",
+        f"commit: {commit}",
+        f"kit: {kit}",
+        *([f"waiting: {' '.join(waiting)}"] if waiting else []),
+    ]
     with open(os.path.join(root, NOTE), "w", encoding="utf-8") as it:
-        it.write(f"What landed last: its edits were tried, and those of crates that are the same since are tried by turns (docs/GATE.md).\nrun: {int(fields['run']) + 1}\ncommit: {commit}\nkit: {kit}\n")
+        it.writelines(f"{row}\n" for row in rows)
+
+
+@contextlib.contextmanager
+def checked_out(root, commit):
+    """A folder with the tree of a commit, which has the repository's history."""
+    with tempfile.TemporaryDirectory() as room:
+        tree = os.path.join(room, "tree")
+        subprocess.run(["git", "-C", root, "worktree", "add", "--quiet", "--detach", tree, commit], check=True)
+        try:
+            yield tree
+        finally:
+            git(root, "worktree", "remove", "--force", tree)
+
+
+def waiting_in(tree, crates, kit):
+    """The crates whose edits the gate leaves out of a run over this tree though they are due."""
+    landed, _ = Landed.of(tree, kit)
+    return [it.crate for it in left_out(crates, landed) if it.is_due] if landed else []
 
 
 def main(words):
@@ -186,7 +212,10 @@ def main(words):
     if not found:
         print(__doc__)
         return 2
-    write_down(ROOT, found.decode().strip(), Kit().identity())
+    commit, kit = found.decode().strip(), Kit()
+    with checked_out(ROOT, commit) as tree:
+        waiting = waiting_in(tree, kit.crates(tree), kit.identity())
+    write_down(ROOT, commit, kit.identity(), waiting)
     return 0
 
 

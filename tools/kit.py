@@ -3,11 +3,13 @@
 The kit's command `rt` is a Python script beside a module `rtlib`. Both are the kit's own: a later kit may name things otherwise,
 and then this file is to be brought up to it, and no other."""
 
+import functools
 import importlib.machinery
 import importlib.util
 import os
 import shutil
 import sys
+import threading
 import types
 
 # the machine that programs are for
@@ -18,6 +20,28 @@ OF_A_CHECK = 3 << 30
 
 class NoKit(Exception):
     """The command rt of the Rattle kit is not on PATH, or isn't the script that is known here."""
+
+
+def once_in_a_call(method):
+    """A method of a crate that asks the crates below it, each of which asks on: one that asks each crate once, however many ways lead to it.
+
+    Some kits ask anew for each way, of which there are a million below the program. What was answered is forgotten as the outermost call ends, so that a later
+    one sees files that have changed."""
+    here = threading.local()
+
+    @functools.wraps(method)
+    def asked(crate):
+        if hasattr(here, "answers"):
+            if crate not in here.answers:
+                here.answers[crate] = method(crate)
+            return here.answers[crate]
+        here.answers = {}
+        try:
+            return method(crate)
+        finally:
+            del here.answers
+
+    return asked
 
 
 def _load():
@@ -35,6 +59,8 @@ def _load():
         raise NoKit(f"the command rt of this Rattle kit isn't the one that tools/kit.py knows ({error})")
     finally:
         sys.dont_write_bytecode = writes
+    for name in ("below", "stamp"):
+        setattr(made.rtlib.Crate, name, once_in_a_call(getattr(made.rtlib.Crate, name)))
     # as rt does before it judges anything: no crate of ours has C code
     os.environ.pop(made.rtlib.ALLOW_C, None)
     return made
@@ -47,6 +73,10 @@ class Kit:
         self.rt = _load()
         # words that begin a command, so that it ends when we do, however that comes
         self.guard = self.rt.rtlib.guarded()
+
+    def run(self, words):
+        """What the command rt does with these words, and its exit status."""
+        return self.rt.main(words)
 
     def crates(self, root):
         """The crates of a repository, or of one crate's folder and those below it, lowest first."""

@@ -13,6 +13,9 @@ from tests.support.program import LATE, needs, request
 
 HERE = os.path.dirname(os.path.abspath(__file__))
 DEBIANS_PYTHON, DEBIANS_GO = "/usr/bin/python3", "/usr/share/gocode"
+# redigo, and its own tests in which MULTI stands
+REDIGO = "github.com/gomodule/redigo/redis"
+REDIGOS = ["TestDoCommands", "TestPipelineCommands", "TestExecError", "TestPoolTransactionCleanup"]
 BENCHES = ["ping", "set", "get", "incr", "lpush", "rpush", "lpop", "rpop", "sadd", "hset", "spop", "zadd", "zpopmin", "lrange", "mset"]
 # of so many requests, sixteen at a time
 BENCHED = 20_000
@@ -171,12 +174,28 @@ class Libraries(Talking):
         needs(self, runs("node", "-e", "require('redis')", **how), "node-redis")
         self.plays("node", os.path.join(HERE, "session.js"), **how)
 
-    def test_redigo(self):
+    def going(self, path):
+        """The environment for go, which finds packages at this path."""
         needs(self, shutil.which("go"), "golang-go")
-        needs(self, os.path.isdir(os.path.join(DEBIANS_GO, "src/github.com/gomodule/redigo/redis")), "golang-github-gomodule-redigo-dev")
-        program, how = os.path.join(self.folder, "session"), {"GO111MODULE": "off", "GOPATH": DEBIANS_GO, "GOCACHE": os.path.join(self.folder, "go")}
-        subprocess.run(["go", "build", "-o", program, os.path.join(HERE, "session.go")], check=True, env={**os.environ, **how}, timeout=10 * LATE)
+        needs(self, os.path.isdir(os.path.join(DEBIANS_GO, "src", REDIGO)), "golang-github-gomodule-redigo-dev")
+        return {**os.environ, "GO111MODULE": "off", "GOPATH": path, "GOCACHE": os.path.join(self.folder, "go")}
+
+    def test_redigo(self):
+        program, how = os.path.join(self.folder, "session"), self.going(DEBIANS_GO)
+        subprocess.run(["go", "build", "-o", program, os.path.join(HERE, "session.go")], check=True, env=how, timeout=10 * LATE)
         self.plays(program)
+
+    def test_redigo_by_its_own_tests(self):
+        """Those of transactions, on a server that they start as they start redis-server."""
+        how = self.going(self.folder)
+        # one file of its tests asks for a package that needn't be there
+        without = shutil.ignore_patterns("scan_test.go")
+        shutil.copytree(os.path.join(DEBIANS_GO, "src", REDIGO), os.path.join(self.folder, "src", REDIGO), ignore=without)
+        words = ["go", "test", "-v", "-vet=off", "-timeout=%ds" % LATE, "-run=^(%s)$" % "|".join(REDIGOS), REDIGO]
+        words += ["-args", "-redis-server=" + os.path.join(HERE, "as_redis_server.py"), "-redis-port=%d" % server.free_port()]
+        ran = subprocess.run(words, capture_output=True, text=True, env=how, timeout=10 * LATE)
+        self.assertEqual(ran.returncode, 0, ran.stdout + ran.stderr)
+        self.assertEqual(sorted(re.findall(r"^--- PASS: (\w+)", ran.stdout, re.M)), sorted(REDIGOS))
 
     def test_django(self):
         needs(self, has_module(DEBIANS_PYTHON, "django_redis"), "python3-django-redis")

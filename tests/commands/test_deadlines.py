@@ -357,7 +357,7 @@ class Telling(AtMoments):
 # what makes the key k, and what then is asked and keeps its deadline
 KEPT = [
     ("SET k 5", ["INCR k", "DECR k", "INCRBY k 0", "DECRBY k 7", "APPEND k 1", "APPEND k ", "SETRANGE k 0 1", "SETRANGE k 9 ", "SET k 5 KEEPTTL",
-                 "SET k 6 KEEPTTL XX GET", "SET k v NX", "SET k v NX EX 1", "SETNX k v", "MSETNX j v k v", "SETRANGE k 16777216 v", "LPUSH k v"]),
+                 "SET k 6 KEEPTTL XX GET", "SET k v NX", "SET k v NX EX 1", "SETNX k v", "MSETNX j v k v", "SETRANGE k 536870912 v", "LPUSH k v"]),
     ("SET k v", ["INCR k", "RENAME k k", "RENAMENX k k", "RENAMENX k h", "EXPIRE k 1 NX", "EXPIRE k 99 LT", "EXPIRE k 0 GT", "PEXPIREAT k 9000",
                  "GET k", "STRLEN k", "MGET k", "EXISTS k", "TYPE k", "TTL k", "RENAME x k", "DEL x", "KEYS *", "FLUSHALL x"]),
     ("HSET k f 1 g 2", ["HSET k h 3", "HSET k f 9", "HMSET k f 8", "HSETNX k i 4", "HINCRBY k f 1", "HDEL k g", "HGETALL k", "SET k v GET"]),

@@ -123,7 +123,7 @@ class Strings(Rehearsing):
             ("SETRANGE k 1 ab", number(3)),
             ("SETRANGE k 2 x", number(3), "SETRANGE k 2 x"),
             ("SETRANGE k 9 ", number(3)),
-            ("SETRANGE k 16777216 x", b"-ERR string too long\r\n"),
+            ("SETRANGE k 536870912 x", b"-ERR string too long\r\n"),
             ("GETRANGE k 1 -1", bulk("ax")),
         ]
         self.plays(rows)

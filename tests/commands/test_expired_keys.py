@@ -123,7 +123,7 @@ TEXTS_IN_PART = [
     ("APPEND p ", "p", number(0), "APPEND p "),
     ("SETRANGE p 1 v", "p", number(2), "SETRANGE p 1 v"),
     ("SETRANGE p 9 ", "p", number(0)),
-    ("SETRANGE p 16777216 v", "p", b"-ERR string too long\r\n"),
+    ("SETRANGE p 536870912 v", "p", b"-ERR string too long\r\n"),
     ("INCR p", "p", number(1), "INCRBY p 1"),
     ("DECR p", "p", number(-1), "INCRBY p -1"),
     ("INCRBY p 9223372036854775807", "p", number(2**63 - 1), "INCRBY p 9223372036854775807"),

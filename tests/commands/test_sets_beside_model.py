@@ -5,8 +5,7 @@ import random
 import unittest
 
 from tests.support.names import name_of
-from tests.support.program import request, run
-from tests.support.replies import NIL, NONE, array, bulk, number
+from tests.support.replies import NIL, NONE, Playing, array, bulk, number
 
 CALLS = 60_000
 # the random words with which a server is run: what is drawn begins at the place that is the word modulo the number of members
@@ -95,26 +94,20 @@ CALLS_ON_SETS = (
 )
 
 
-class Draws(unittest.TestCase):
-    def plays(self, word):
+class Draws(Playing):
+    def draws(self, word):
         player = Player(word)
         calls = [player.call() for _ in range(CALLS)]
         # at the end each set is told whole
         for key, members in player.sets.items():
             calls.append(((b"SMEMBERS", key), array(*members) if members else NONE))
         self.assertGreater(len(player.sets[b"many"]), 4_000)
-        ran = run(b"".join(request(*words) for words, _ in calls), "pipe", "--word", "%d" % word)
-        self.assertEqual((ran.returncode, ran.stderr), (0, b""))
-        at = 0
-        for words, wanted in calls:
-            self.assertEqual(ran.stdout[at:at + len(wanted)], wanted, words)
-            at += len(wanted)
-        self.assertEqual(len(ran.stdout), at)
+        self.plays(calls, "--word", "%d" % word)
 
     def test_random_calls_have_the_replies_of_the_model(self):
         for word in WORDS:
             with self.subTest(word=word):
-                self.plays(word)
+                self.draws(word)
 
 
 if __name__ == "__main__":

@@ -5,8 +5,7 @@ import random
 import unittest
 
 from tests.support.names import name_of
-from tests.support.program import request, run
-from tests.support.replies import NIL, NONE, array, bulk, number
+from tests.support.replies import NIL, NONE, Playing, array, bulk, number
 
 CALLS = 300_000
 # how many members the set at each key tends to
@@ -195,7 +194,7 @@ CALLS_ON_SETS = (
 )
 
 
-class Ranks(unittest.TestCase):
+class Ranks(Playing):
     def test_random_calls_have_the_replies_of_the_model(self):
         player = Player(17)
         calls = [player.call() for _ in range(CALLS)]
@@ -204,13 +203,7 @@ class Ranks(unittest.TestCase):
             calls.append(((b"ZRANGE", key, b"0", b"-1", b"WITHSCORES"), listed(model.pairs, True)))
             calls.append(((b"ZREVRANGEBYSCORE", key, b"+inf", b"-inf"), listed(model.pairs[::-1], False)))
         self.assertGreater(len(player.sets[b"many"].pairs), 4_000)
-        ran = run(b"".join(request(*words) for words, _ in calls), "pipe")
-        self.assertEqual((ran.returncode, ran.stderr), (0, b""))
-        at = 0
-        for words, wanted in calls:
-            self.assertEqual(ran.stdout[at:at + len(wanted)], wanted, words)
-            at += len(wanted)
-        self.assertEqual(len(ran.stdout), at)
+        self.plays(calls)
 
 
 if __name__ == "__main__":

@@ -77,7 +77,7 @@ STRINGS = [
     ("MGET z w", array("aXY", "\0\0\0q")),
     ("SETRANGE z -1 q", BAD_OFFSET),
     ("SETRANGE z x q", INTEGER),
-    ("SETRANGE z 16777216 q", TOO_LONG),
+    ("SETRANGE z 536870912 q", TOO_LONG),
     ("SETRANGE z 9223372036854775807 q", TOO_LONG),
     ("GET z", bulk("aXY")),
     ("INCR i", number(1)),
@@ -176,13 +176,13 @@ class Strings(Answering):
 
     def test_empty_values(self):
         asked = [request("APPEND", "k", ""), request("EXISTS", "k"), request("SETRANGE", "n", "5", ""), request("EXISTS", "n")]
-        asked += [request("APPEND", "k", "ab"), request("SETRANGE", "k", "16777216", ""), request("GET", "k")]
+        asked += [request("APPEND", "k", "ab"), request("SETRANGE", "k", "536870912", ""), request("GET", "k")]
         ran = run(b"".join(asked), "pipe")
         wanted = number(0) + number(1) + number(0) + number(0) + number(2) + number(2) + bulk("ab")
         self.assertEqual((ran.returncode, ran.stdout), (0, wanted))
 
     def test_a_text_grows_to_the_limit(self):
-        most = 16 * 1024 * 1024
+        most = 512 * 1024 * 1024
         asked = [request("SETRANGE", "k", str(most - 1), "x"), request("APPEND", "k", "y"), request("STRLEN", "k")]
         asked += [request("SETRANGE", "k", str(most - 1), "yz"), request("GETRANGE", "k", "-2", "-1")]
         ran = run(b"".join(asked), "pipe")

@@ -179,8 +179,12 @@ class Answers(Answering):
 
     def test_large_words_wait(self):
         value = bytes(1 << 24)
-        asked = [(MULTI, OK), (request("SET", "k", value), QUEUED), (request("STRLEN", "k"), QUEUED), (request("APPEND", "k", "x"), QUEUED), (GET, QUEUED)]
-        self.are_answered([*asked, (EXEC, array_of(OK, number(1 << 24), b"-ERR string too long\r\n", bulk(value)))])
+        asked = [(MULTI, OK), (request("SET", "k", value), QUEUED), (request("STRLEN", "k"), QUEUED), (GET, QUEUED)]
+        self.are_answered([*asked, (EXEC, array_of(OK, number(1 << 24), bulk(value)))])
+
+    def test_a_text_past_the_limit(self):
+        asked = [(MULTI, OK), (request("SETRANGE", "k", "536870911", "x"), QUEUED), (request("APPEND", "k", "x"), QUEUED), (request("STRLEN", "k"), QUEUED)]
+        self.are_answered([*asked, (EXEC, array_of(number(1 << 29), b"-ERR string too long\r\n", number(1 << 29)))])
 
     def test_many_requests_wait(self):
         count = 20_000
@@ -282,21 +286,52 @@ class Effects(Rehearsing):
         self.rehearses([*calls, ("step 0", done(OK, closes=True)), ("step 0", "closed"), ("shows", "shows %s 0" % ID)])
 
 
+# writes, whatever they would do
+WRITES = ["SET k w", "DEL none", "EXPIRE k 5", "SPOP s", "LPUSH l a", "HSET h f v", "ZADD z 1 m", "RENAME k l", "GETDEL k", "FLUSHALL"]
+
+
 class OfReplicas(Rehearsing):
     """A replica, and one that was a master when the transaction began."""
 
-    def test_a_write_is_refused_at_once_and_marks(self):
-        for line in ("SET k w", "DEL none", "EXPIRE k 5", "SPOP s", "FLUSHALL"):
-            calls = [*holding("SET k v"), ("replica", "started"), ("open", "opened")]
-            for asked, told in ((MULTI, OK), (GET, QUEUED), (texts(line), READONLY), (GET, QUEUED), (EXEC, ABORTED), (GET, bulk("v"))):
-                calls += [fed(0, asked), ("step 0", done(told))]
-            self.rehearses(calls)
-
-    def test_what_is_read_is_answered(self):
+    def are_answered(self, *rows):
+        """What is asked of a replica that holds one key. It shows what it showed, and nothing is left to be read."""
         calls = [*holding("SET k v"), ("replica", "started"), ("open", "opened")]
-        for asked, told in ((MULTI, OK), (GET, QUEUED), (texts("SET k v NX XX"), QUEUED), (texts("DBSIZE"), QUEUED), (EXEC, array_of(bulk("v"), SYNTAX, number(1)))):
+        for asked, told in rows:
             calls += [fed(0, asked), ("step 0", done(told))]
-        self.rehearses(calls)
+        self.rehearses([*calls, ("step 0", "idle"), ("shows", "shows %s 0" % ID)])
+
+    def test_what_is_refused_at_once_marks(self):
+        """What is refused on a master, by the same words, and each write."""
+        for line, told in [*REFUSED, *((it, READONLY) for it in WRITES)]:
+            with self.subTest(line=line):
+                refused = [(MULTI, OK), (GET, QUEUED), (texts(line), told), (GET, QUEUED), (EXEC, ABORTED)]
+                self.are_answered(*refused, (GET, bulk("v")), (EXEC, EXEC_ALONE))
+
+    def test_what_is_told_at_the_end(self):
+        """Faults, also of writes: these are found before it is seen that they are writes."""
+        replies = [*(told for _, told in FAULTY), bulk("v"), number(1)]
+        self.are_answered((MULTI, OK), *((texts(line), QUEUED) for line, _ in FAULTY), (GET, QUEUED), (texts("DBSIZE"), QUEUED), (EXEC, array_of(*replies)))
+
+    def test_one_within_one_is_refused_and_it_goes_on(self):
+        self.are_answered((MULTI, OK), (GET, QUEUED), (MULTI, NESTED), (GET, QUEUED), (EXEC, array_of(bulk("v"), bulk("v"))))
+
+    def test_none_is_open(self):
+        alone = [(EXEC, EXEC_ALONE), (texts("DISCARD"), DISCARD_ALONE)]
+        self.are_answered(*alone, (MULTI, OK), (EXEC, NONE), *alone, (MULTI, OK), (GET, QUEUED), (texts("DISCARD"), OK), *alone, (GET, bulk("v")))
+
+    def test_a_link_that_quits(self):
+        calls = [*holding("SET k v"), ("replica", "started"), ("open", "opened"), fed(0, MULTI + GET + request("QUIT") + EXEC)]
+        calls += [("step 0", done(OK)), ("step 0", done(QUEUED)), ("step 0", done(OK, closes=True)), ("step 0", "closed")]
+        self.rehearses([*calls, ("shows", "shows %s 0" % ID)])
+
+    def test_a_write_that_waits_while_its_node_becomes_a_replica(self):
+        """It is refused at its place, and does nothing; what is read beside it is answered."""
+        calls = [*holding("SET k v"), ("master", "started"), *(2 * [("open", "opened")])]
+        for asked, told in ((MULTI, OK), (GET, QUEUED), (SET_W, QUEUED)):
+            calls += [fed(0, asked), ("step 0", done(told))]
+        calls += [fed(1, texts("REPLICAOF h 1")), ("step 1", "done sf %s -" % OK.hex())]
+        calls += [fed(0, GET + EXEC), ("step 0", done(QUEUED)), ("step 0", done(array_of(bulk("v"), READONLY, bulk("v"))))]
+        self.rehearses([*calls, ("shows", "shows %s 0" % ID)])
 
 
 if __name__ == "__main__":

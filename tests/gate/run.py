@@ -1,9 +1,10 @@
 """The gate: `run.py` proves, tries and tests everything by `rt ci` and plays the tables; `run.py --batched` tries the edits in batches; `run.py --by-turns` does so too, and
-leaves out, in nine runs of ten, those of crates that are the same as they landed; `run.py --tables` only plays the tables. It is run at the top, by `python3 -m tests.gate.run`.
+leaves out those of crates that are the same as they landed, but for a tenth, and those for which a run has no time; `run.py --tables` only plays the tables. It is run at the top, by `python3 -m tests.gate.run`.
 
 Each stops at the first part that fails. The last line is `N passed, M failed`, and stands alone. docs/GATE.md says what each shows."""
 
 import contextlib
+import glob
 import os
 import re
 import shutil
@@ -12,12 +13,15 @@ import sys
 import tempfile
 import threading
 import unittest
+from concurrent.futures import ThreadPoolExecutor
 
 from following import proved_in
 from kit import OF_A_CHECK, Kit, NoKit
 from tests.support.program import ABSENT, LAUNCHER, ROOT
 
 COUNT = re.compile(r"(\d+) passed, (\d+) failed\s*\Z")
+# the kit's gate, as this project runs it
+RT_CI = [sys.executable, "-u", os.path.join(ROOT, "tools", "rt.py"), "ci"]
 # what a clone of the repository doesn't have, and the edits
 NOT_COPIED = (".git", "out", "__pycache__", "*.pyc", "must-fail")
 
@@ -118,6 +122,11 @@ def crates_at_once():
     return max(1, min(kit.lanes(), kit.memory() // OF_A_CHECK))
 
 
+def files_at_once():
+    """How many files of tests are played at a time: one processor is left to what they measure."""
+    return max(1, (os.cpu_count() or 1) - 1)
+
+
 def copied(root, to):
     """Copies what the repository holds, without the edits."""
     copy = os.path.join(to, "repository")
@@ -132,23 +141,56 @@ def judged(result):
         print(f"{why} ({test.id()})")
     bad = len(result.failures) + len(result.errors) + len(result.unexpectedSuccesses) + len(result.skipped) - len(absent)
     passed = result.testsRun - len(absent)
-    if bad or not result.wasSuccessful() or passed < 1:
+    if bad or not result.wasSuccessful() or not result.testsRun:
         return max(0, passed - 1), max(1, bad)
     return passed, 0
 
 
-def tables():
-    """Tests the built program, and returns how many of its tests passed."""
+def files_of_tests():
+    """The modules that hold tests: first those that prove something, then the longest, so that what takes long begins early."""
+    files = [os.path.relpath(it, ROOT) for it in glob.glob(os.path.join(ROOT, "tests", "*", "test_*.py"))]
+    files.sort(key=lambda it: (not it.startswith(os.path.join("tests", "gate")), -os.path.getsize(os.path.join(ROOT, it)), it))
+    return [it[: -len(".py")].replace(os.sep, ".") for it in files]
+
+
+def one_file(module):
+    """Runs the tests of a module, and returns how many of them passed and failed."""
+    found = unittest.defaultTestLoader.loadTestsFromName(module)
+    return judged(unittest.TextTestRunner(stream=sys.stdout, verbosity=2, failfast=True).run(found))
+
+
+def played(module):
+    """Runs the tests of a module in a process of its own, and returns how many passed and failed. What it says is printed whole, once it has ended."""
+    words = [sys.executable, "-u", "-m", "tests.gate.run", "--file", module]
+    ran = subprocess.run(words, cwd=ROOT, stdin=subprocess.DEVNULL, stdout=subprocess.PIPE, stderr=subprocess.STDOUT, text=True, errors="replace")
+    *said, last = ran.stdout.splitlines() or [""]
+    count = COUNT.match(last)
+    with Part.printing:
+        print("\n".join([*said, f"{module}: {last}"]), flush=True)
+    well, failed = (int(it) for it in count.groups()) if count else (0, 1)
+    return well, 1 if ran.returncode and not failed else failed
+
+
+def tables(at_once):
+    """Tests the built program, so many files of tests at a time, and returns how many of its tests passed. The first that fails is the last that begins."""
     built = subprocess.run([LAUNCHER], cwd=ROOT, stdin=subprocess.DEVNULL)
     if built.returncode:
         print("minired's tests: the program cannot be built")
         end(0, 1)
-    found = unittest.defaultTestLoader.discover(os.path.join(ROOT, "tests"), top_level_dir=ROOT)
     # what runs the gate says otherwise where no client may be absent
     os.environ.setdefault("ABSENT_CLIENTS", "named")
-    passed, failed = judged(unittest.TextTestRunner(stream=sys.stdout, verbosity=2, failfast=True).run(found))
-    if failed:
-        end(passed, failed)
+    lost = threading.Event()
+
+    def plays(module):
+        well, bad = (0, 0) if lost.is_set() else played(module)
+        if bad:
+            lost.set()
+        return well, bad
+
+    with ThreadPoolExecutor(at_once) as pool:
+        passed, failed = (sum(it) for it in zip(*pool.map(plays, files_of_tests())))
+    if failed or not passed:
+        end(passed, max(1, failed))
     return passed
 
 
@@ -159,23 +201,25 @@ def tables_in(folder, passed):
 
 def everything():
     """What rt ci does, one edit after another, and the tables."""
-    return tables_in(ROOT, part("rt ci", ["rt", "ci"], ROOT, 0))
+    return tables_in(ROOT, part("rt ci", RT_CI, ROOT, 0))
 
 
 def batched(root=ROOT, by_turns=False):
     """The same, with the edits in batches: in a copy of this repository without them, rt ci proves each crate from nothing; over these crates the edits
-    are tried, each as soon as its crate and those below it are proved. By turns, not those whose turn hasn't come (tests/landed.py)."""
+    are tried, each as soon as its crate and those below it are proved. By turns, not those whose turn hasn't come (tests/turns.py)."""
     with tempfile.TemporaryDirectory(prefix="minired-gate-", ignore_cleanup_errors=True) as room:
         copy, kept, at_once = copied(root, room), os.path.join(room, "edits"), str(crates_at_once())
         os.mkdir(kept)
         words = [sys.executable, "-u", os.path.join(ROOT, "tests", "edits.py"), "--proved", copy, "--edits", root, "--follow", at_once, *(["--by-turns"] if by_turns else [])]
         # first the edits: they measure the memory that is free before rt ci takes any
         edits = Part("edits", words, ROOT, stdin=subprocess.PIPE, TMPDIR=kept)
-        return tables_in(copy, side_by_side(Part("rt ci", ["rt", "ci"], copy), edits))
+        return tables_in(copy, side_by_side(Part("rt ci", RT_CI, copy), edits))
 
 
 def main(words):
-    gates = {"": everything, "--batched": batched, "--by-turns": lambda: batched(by_turns=True), "--tables": tables}
+    if len(words) == 2 and words[0] == "--file":
+        end(*one_file(words[1]))
+    gates = {"": everything, "--batched": batched, "--by-turns": lambda: batched(by_turns=True), "--tables": lambda: tables(files_at_once())}
     if " ".join(words) not in gates:
         print(__doc__)
         sys.exit(2)

@@ -13,6 +13,7 @@ import unittest
 
 from borrow import borrowed, proved_by
 from build import Progress, last_lines, length_of
+from kit import Kit, once_in_a_call
 from lanes import YIELDING, Lanes, Run, Task, chains, in_lanes, share
 from tests.support import tiny_repository as tiny
 from tests.support.program import ROOT
@@ -300,6 +301,50 @@ class OfATinyProgram(unittest.TestCase):
         log = os.path.join(self.root, "out", "build.log")
         self.assertEqual(lines[-1], f"minired: the build failed at low: the lines above are the last of it, and all are in {log}")
         self.assertTrue(os.path.isfile(log))
+
+
+class Ladder:
+    """A crate that stands on each of those before it, and counts how often it is asked for what it is worth."""
+
+    def __init__(self, below):
+        self.below, self.asked = below, 0
+
+    @once_in_a_call
+    def worth(self):
+        self.asked += 1
+        return 1 + sum(it.worth() for it in self.below)
+
+
+class OnceInACall(unittest.TestCase):
+    """What each crate asks of those below it, along each of the ways that lead to them."""
+
+    def test_each_crate_is_asked_once_however_many_ways_lead_to_it(self):
+        crates = []
+        for _ in range(64):
+            crates.append(Ladder(list(crates)))
+        self.assertEqual(crates[-1].worth(), 1 << 63)
+        self.assertEqual({it.asked for it in crates}, {1})
+
+    def test_a_later_call_asks_anew(self):
+        low = Ladder([])
+        high = Ladder([low])
+        self.assertEqual(high.worth(), 2)
+        low.below = [Ladder([])]
+        self.assertEqual((high.worth(), low.asked), (3, 2))
+
+    def test_so_does_one_after_a_call_that_failed(self):
+        low = Ladder([None])
+        high = Ladder([low])
+        with self.assertRaises(AttributeError):
+            high.worth()
+        low.below = []
+        self.assertEqual(high.worth(), 2)
+
+    def test_the_kits_crates_are_asked_so(self):
+        top = Kit().crates(ROOT)[-1]
+        names = [it.name for it in top.inner.below()]
+        self.assertEqual(len(names), len(set(names)))
+        self.assertEqual(set(names), {it.name for it in top.below})
 
 
 class Fake:

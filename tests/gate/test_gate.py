@@ -175,6 +175,54 @@ class Skipped(unittest.TestCase):
         result = unittest.TestResult()
         self.assertEqual(run.judged(result)[1], 1)
 
+    def test_a_file_of_which_all_are_absent_has_not_failed(self):
+        result = unittest.TestResult()
+        result.testsRun, result.skipped = 1, [(self, "absent: php-redis")]
+        with contextlib.redirect_stdout(io.StringIO()):
+            self.assertEqual(run.judged(result), (0, 0))
+
+
+class Tables(unittest.TestCase):
+    """Files of tests, some at a time, each in a process of its own."""
+
+    def plays(self, **counts):
+        """What the gate says where the files of these names end in these counts."""
+        played, said = [], io.StringIO()
+
+        def plays(module):
+            played.append(module)
+            return counts[module]
+
+        with contextlib.redirect_stdout(said), mock.patch.multiple(run, played=plays, files_of_tests=lambda: list(counts), LAUNCHER="true"):
+            try:
+                return run.tables(1), played, ""
+            except SystemExit:
+                return None, played, said.getvalue().splitlines()[-1]
+
+    def test_each_file_of_tests_is_played(self):
+        there = {os.path.join(at, name) for at, _, names in os.walk(os.path.join(ROOT, "tests")) for name in names if re.fullmatch(r"test_.*\.py", name)}
+        named = run.files_of_tests()
+        self.assertEqual({os.path.join(ROOT, *it.split(".")) + ".py" for it in named}, there)
+        self.assertEqual(len(named), len(there))
+
+    def test_what_passed_is_added_up(self):
+        self.assertEqual(self.plays(one=(2, 0), two=(0, 0), three=(3, 0)), (5, ["one", "two", "three"], ""))
+
+    def test_behind_a_failure_no_further_file_begins(self):
+        value, played, last = self.plays(one=(2, 0), two=(3, 1), **{f"later_{it}": (1, 0) for it in range(50)})
+        self.assertIsNone(value)
+        self.assertEqual((played, last), (["one", "two"], "5 passed, 1 failed"))
+
+    def test_no_test_at_all_is_a_failure(self):
+        self.assertEqual(self.plays(one=(0, 0))[2], "0 passed, 1 failed")
+
+    def test_a_file_ends_in_the_count_of_its_tests(self):
+        said = io.StringIO()
+        with contextlib.redirect_stdout(said):
+            self.assertEqual(run.played("tests.pages.test_definitions")[1], 0)
+            self.assertEqual(run.played("tests.pages.none_of_this_name")[1], 1)
+        self.assertRegex(said.getvalue(), r"\ntests\.pages\.test_definitions: [1-9]\d* passed, 0 failed\n")
+
 
 class Comparing(unittest.TestCase):
     """What rt and the script of batches say of the same edits."""

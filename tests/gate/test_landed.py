@@ -1,15 +1,14 @@
-"""Which edits are tried by turns: a tiny repository whose tree landed, and what came after."""
+"""Which crates are as they landed: a tiny repository whose tree landed, and what came after."""
 
-import contextlib
-import io
 import os
 import subprocess
 import tempfile
 import unittest
 from types import SimpleNamespace
+from unittest import mock
 
-import edits
-from landed import NOTE, SCRIPTS, TURNS, Landed, write_down
+import turns
+from landed import NOTE, SCRIPTS, Landed, checked_out, waiting_in, write_down
 from sources import without_bodies
 from tests.support import tiny_repository as tiny
 
@@ -89,11 +88,6 @@ class Landing(unittest.TestCase):
         self.assertEqual(why, "")
         return [it.name for it in CRATES if landed.is_same(it)]
 
-    def why(self, kit=KIT):
-        landed, why = Landed.of(self.root, kit)
-        self.assertIsNone(landed)
-        return why
-
 
 class Same(Landing):
     """What a crate's verdicts rest on."""
@@ -170,20 +164,40 @@ class Same(Landing):
         self.assertEqual(self.same(), ["low", "high", "beside"])
 
 
+class Anew(Landing):
+    """What any edit's verdict rests on."""
+
+    def why(self, kit=KIT):
+        landed, why = Landed.of(self.root, kit)
+        self.assertEqual(why, "")
+        return landed.anew
+
+    def test_nothing_has_changed(self):
+        self.assertEqual(self.why(), "")
+
+    def test_another_kit(self):
+        self.assertEqual(self.why("a later kit"), "another kit: a later kit")
+
+    def test_a_script_has_changed(self):
+        for script in SCRIPTS:
+            with self.subTest(script):
+                tiny.write(self.root, {script: "# another script\n"})
+                self.assertEqual(self.why(), f"{script} has changed")
+                tiny.write(self.root, {script: FILES[script]})
+
+
 class NothingLanded(Landing):
     """Where no landed tree counts, every edit is tried."""
 
-    def test_another_kit(self):
-        self.assertIn("another kit", self.why("another kit"))
-
-    def test_a_script_has_changed(self):
-        tiny.write(self.root, {SCRIPTS[0]: "# another script\n"})
-        self.assertIn(f"{SCRIPTS[0]} has changed", self.why())
+    def why(self, kit=KIT):
+        landed, why = Landed.of(self.root, kit)
+        self.assertIsNone(landed)
+        return why
 
     def test_a_commit_that_did_not_come_before(self):
         landed, beside = self.git("rev-parse", "HEAD"), self.commit()
         self.git("reset", "--quiet", "--hard", landed)
-        write_down_again(self.root, beside)
+        write_down(self.root, beside, KIT)
         self.assertIn("isn't in this tree's history", self.why())
 
     def test_no_history(self):
@@ -200,49 +214,35 @@ class NothingLanded(Landing):
         self.assertIn("there is no", self.why())
 
 
-def write_down_again(root, commit):
-    with open(os.path.join(root, NOTE), "w", encoding="utf-8") as it:
-        it.write(f"run: 7\ncommit: {commit}\nkit: {KIT}\n")
+class WrittenDown(Landing):
+    """The note of what landed."""
 
+    def note(self):
+        with open(os.path.join(self.root, NOTE), encoding="utf-8") as it:
+            return it.read().splitlines()[1:]
 
-class Turns(Landing):
-    """In one run of ten a crate's edits are tried though it is the same."""
+    def test_a_run_more_and_the_commit(self):
+        landed = self.git("rev-parse", "HEAD")
+        write_down(self.root, landed, "a later kit")
+        self.assertEqual(self.note(), ["run: 8", f"commit: {landed}", "kit: a later kit"])
 
-    def trials(self):
-        return [SimpleNamespace(crate=it, edits=["an edit", "another"]) for it in CRATES]
+    def test_those_that_wait_are_named_until_none_does(self):
+        landed = self.git("rev-parse", "HEAD")
+        write_down(self.root, landed, KIT, ["low", "beside"])
+        self.assertEqual(self.note()[3:], ["waiting: low beside"])
+        self.assertEqual(Landed.of(self.root, KIT)[0].waiting, ["low", "beside"])
+        write_down(self.root, landed, KIT)
+        self.assertEqual(self.note()[3:], [])
+        self.assertEqual(Landed.of(self.root, KIT)[0].waiting, [])
 
-    def tried(self):
-        with contextlib.redirect_stdout(io.StringIO()) as said:
-            found = edits.those_of_this_run(self.trials(), CRATES, Landed.of(self.root, KIT))
-        return [it.crate.name for it in found], said.getvalue()
-
-    def test_each_crate_has_its_turn_in_ten_runs(self):
-        turns = {it.name: 0 for it in CRATES}
-        for _ in range(TURNS):
-            for name in self.tried()[0]:
-                turns[name] += 1
-            write_down(self.root, self.git("rev-parse", "HEAD"), KIT)
-        self.assertEqual(turns, {"low": 1, "high": 1, "beside": 1})
-
-    def test_what_has_changed_is_tried_in_each_run(self):
-        self.change("crates/high/src/lib.rt", "half(half(n))", "half(n) / 2")
-        for _ in range(TURNS):
-            self.assertIn("high", self.tried()[0])
-            write_down(self.root, self.git("rev-parse", "HEAD"), KIT)
-
-    def test_what_is_left_out_is_said(self):
-        # run 7: the crates have their turns in runs 10, 11 and 12
-        found, said = self.tried()
-        self.assertEqual(found, [])
-        self.assertIn("low: as it landed with ", said)
-        self.assertIn("so its 2 edits have their turn 3 runs from now", said)
-        self.assertTrue(said.endswith("6 edits of 3 crates are not tried in this run\n"))
-
-    def test_where_no_landed_tree_counts_all_are_tried(self):
-        tiny.write(self.root, {SCRIPTS[-1]: "# another script\n"})
-        found, said = self.tried()
-        self.assertEqual(found, ["low", "high", "beside"])
-        self.assertIn("all edits are tried", said)
+    def test_the_tree_of_a_commit_tells_which_wait(self):
+        tiny.write(self.root, {"crates/high/src/lib.rt": HIGH.replace("quarter", "fourth")})
+        changed = self.commit()
+        # what has changed since then says nothing of it
+        tiny.write(self.root, {SCRIPTS[0]: "# another script\n"})
+        with mock.patch.object(turns, "MOST", 0), checked_out(self.root, changed) as tree:
+            self.assertEqual(waiting_in(tree, CRATES, KIT), ["high"])
+        self.assertEqual(self.git("worktree", "list", "--porcelain").count("worktree "), 1)
 
 
 class Bodies(unittest.TestCase):

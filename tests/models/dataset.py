@@ -17,6 +17,8 @@ MOST_AMOUNT = 2**61
 GROUP = 64
 # in one tick
 MOST_DELETED = 64
+# of a note in a file, between its mark and its line feed
+NOTE_LIMIT = 65_536
 
 PING = (b"PING",)
 
@@ -187,10 +189,20 @@ def next_group(data):
         effects.append(tuple(read.words))
 
 
+def note_at(data):
+    """The length of the note at the front: `#`, at most so many bytes that aren't a line feed, and a line feed. `None` where there is none."""
+    feed = data.find(b"\n", 0, NOTE_LIMIT + 2)
+    return feed + 1 if data.startswith(b"#") and feed > 0 else None
+
+
 def load(data):
-    """The dataset of the longest beginning that is a list of texts of groups, each of which can be applied; and the length of that beginning."""
+    """The dataset of the longest beginning that is a list of notes and texts of groups, each of which can be applied; and the length of that beginning."""
     held, used = {}, 0
     while True:
+        note = note_at(data[used : used + NOTE_LIMIT + 2])
+        if note:
+            used += note
+            continue
         group = next_group(data[used:])
         if not isinstance(group, Group):
             return held, used

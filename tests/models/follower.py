@@ -8,7 +8,7 @@ from tests.support.program import request
 MOST = 2**62
 # before a line's end
 MOST_OF_A_LINE = 1024
-MOST_WORDS, MOST_OF_A_WORD = 1_048_576, 16_777_216
+MOST_WORDS, MOST_OF_A_WORD = 1_048_576, 536_870_912
 MOST_SCORE = 2**53
 # so many items stand in one command of a snapshot
 MOST_ITEMS = 64

@@ -4,9 +4,9 @@ A part of the slow, plain model in `world.py`, written from the description alon
 
 from typing import NamedTuple
 
-MOST_OF_A_WORD = 16_777_216
+MOST_OF_A_WORD = 536_870_912
 MOST_WORDS = 1_048_576
-MOST_OF_A_TEXT = 33_554_432
+MOST_OF_A_TEXT = 1_073_741_824
 MOST_OF_A_LINE = 65_536
 # `$0`, and the two line ends of an empty word
 LEAST_OF_A_WORD = 6

@@ -20,7 +20,7 @@ ODD_LINES += (b"step 0 b 2305843009213693953 0 1", b"deliver 0 b", b"raw 0 a b",
 # texts that a client sends in pieces, or that no request begins with
 RAW = (b"GET k\r\n", b"\r\n", b"*0\r\n", b"*-1\r\n", b"*2\r\n$3\r\nGET\r\n$1\r\nk\r\n", b"*2\r\n$3\r\nGE", b"T\r\n$1\r\nk\r\n", b"*1\r\n$4\r\nROLE\r\n", b"set k 'a\\'b'\n")
 PIECES = (b"ECHO ", b'"', b"'", b"\\", b"\\x4", b"41", b"\n", b"\r", b"\r\n", b" ", b"\t", b"\x0b", b"\0", b"x", b"*", b"$", b"1", b"0", b"-", b"*2\r\n$4\r\nECHO\r\n$1\r\n", b"GET k")
-DOOMED = (b"*1\r\n$-5\r\n", b"*x", b"*1\r\n:3", b'"a"b\n', b"GET 'k\n", b"*1\r\n$01", b"*1048577", b"*1\r\n$16777217", b"*1\r\n$1\r\nkX")
+DOOMED = (b"*1\r\n$-5\r\n", b"*x", b"*1\r\n:3", b'"a"b\n', b"GET 'k\n", b"*1\r\n$01", b"*1048577", b"*1\r\n$536870913", b"*1\r\n$1\r\nkX")
 
 
 def quoted(word):

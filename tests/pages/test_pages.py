@@ -21,6 +21,8 @@ LINK = re.compile(r"\]\(([^)#\s]+)?(#[^)\s]+)?\)")
 NAMED = re.compile(r"`((?:crates/)?(?:mr_\w+|minired|rehearse\w*)/(?:src|specs|proofs|must-fail)/[\w/.-]+|(?:docs|tests|tools|bench)/[\w/.-]+\.\w+)`")
 # a file of tests by its name alone, and behind it classes, and tests without what all their names begin with
 NAMED_TESTS = re.compile(r"`(test_\w+)`((?:,? (?:`[A-Z]\w+`|[a-z]+_\w+(?:\.\.)?))*)")
+# a crate by its name, or several by what their names begin with and a star
+NAMED_CRATE = re.compile(r"\b(mr_\w+)(\*?)")
 # what of the tests is named as Python finds it
 DOTTED = re.compile(r"\btests((?:\.\w+)+)")
 # a crate whose edits are named behind it, or an edit; a star stands for all that begin so
@@ -110,6 +112,30 @@ class Crates(unittest.TestCase):
             if not 0 < rows <= ROWS or any(it not in text for it in SAID) or not any(it in text for it in LEFT_OPEN):
                 bad.append(page)
         self.assertEqual(bad, [])
+
+
+    def test_each_crate_that_a_page_names_is_there(self):
+        crates = crates_in(read("crates.txt"))
+        self.assertEqual([(page, it) for page, text in pages().items() for it in lost_crates(crates, text)], [])
+
+    def test_which_names_are_none_of_a_crate(self):
+        crates = crates_in("# mr_file: none\nmr_data:\nmr_cmd_key: mr_data itoa\n")
+        for text, lost in [
+            ("`mr_data`, of mr_cmd_key's, and mr_cmd_* or mr_c*", []),
+            ("mr_dat, mr_data_s, mr_cmd_ and mr_x*", ["mr_dat", "mr_data_s", "mr_cmd_", "mr_x*"]),
+            ("`mr_file`, [`mr_data`](../crates/mr_files/README.md)", ["mr_file", "mr_files"]),
+        ]:
+            self.assertEqual(lost_crates(crates, text), lost)
+
+
+def crates_in(text):
+    """The names of the crates that this text of crates.txt lists."""
+    return re.findall(r"^(\w+):", text, re.M)
+
+
+def lost_crates(crates, text):
+    """What a text names as a crate, and is none of these. A star stands for all whose names begin so."""
+    return [name + star for name, star in NAMED_CRATE.findall(text) if not any(it.startswith(name) if star else it == name for it in crates)]
 
 
 class Tests(unittest.TestCase):

@@ -317,6 +317,10 @@ NO_SNAPSHOTS = [
     SET + PAIR,
     MULTI,
     EXEC,
+    # notes stand in files alone
+    b"#",
+    b"#\n" + SET,
+    SET + b"#TS:5\r\n",
 ]
 # what no effect of a stream is, where `k` is a text
 NO_EFFECTS = [
@@ -340,7 +344,7 @@ NO_EFFECTS = [
     b"*01\r\n",
     b"*1\r\n$4\r\nPINGxx",
     b"*1048577",
-    b"*1\r\n$16777217",
+    b"*1\r\n$536870913",
 ]
 
 
@@ -370,6 +374,8 @@ NO_GROUPS = [
     MULTI + b"S",
     MULTI + b"\r",
     MULTI + SET_A + b"+",
+    MULTI + b"#",
+    MULTI + SET_A + SET_B + b"#",
     MULTI + SET_A + b"*0",
     MULTI + SET_A + b"*1\r\n+",
     MULTI + SET_A + SET_B + b"*1\r\n$4\r\nEXECx",

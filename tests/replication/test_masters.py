@@ -12,11 +12,14 @@ from tests.support.program import LATE, needs, request
 from tests.support.replicas import Played, closes, garbage, said_in
 from tests.support.replicating import Replicating, leads
 from tests.support.replies import OK, PONG, READONLY, array, bulk, number, role_of_replica
-from tests.support.requests import EXEC, MULTI, PAIR, PING, SET, SET_A, framed
+from tests.support.requests import EXEC, MULTI, PAIR, PING, SET, SET_A, SET_W, framed
 from tests.support.server import HOST, until
 
 # how long after the last write a master knows how far its replicas are, in seconds
 ACKNOWLEDGED = 2
+# what a server says of a master that it can't dial, and of one that it can't reach
+UNDIALLED = b"not dialled: its host is no IPv4 address, or no socket is left"
+UNREACHED = b"not reached, or link lost in the handshake"
 # dials in a second, at most
 MOST_DIALS = 50
 
@@ -179,6 +182,85 @@ class WrongMasters(Replicating):
         self.follows_again(between)
 
 
+class Told(Replicating):
+    """What a server says of a master that it can't follow: once, however often it dials, but for a copy, which it says once a second at most."""
+
+    def tells(self, does, *lines):
+        """It follows a peer that does this, dials it again and again, and says these lines."""
+        fake, self.began = self.fake(does), time.monotonic()
+        node = self.node(follows=fake.port)
+        self.comes(lambda: fake.dials > 3)
+        self.says(node, fake.port, *lines)
+
+    def says(self, node, port, *lines, host=HOST):
+        replica = b"replica of %s:%d, " % (host.encode(), port)
+        told, began = [it[len(replica) :] for it in node.told() if it.startswith(replica)], b"whole copy begins"
+        if began in told:
+            self.assertLessEqual(told.count(began), 1 + time.monotonic() - self.began)
+            told = list(dict.fromkeys(told))
+        self.assertEqual(told, [*lines[:1], b"not in its stream", *lines[1:]] if lines[0] == UNDIALLED else [b"not in its stream", *lines])
+
+    def test_a_port_where_nobody_listens(self):
+        with socket.socket() as it:
+            it.bind((HOST, 0))
+            port = it.getsockname()[1]
+            node, began = self.node(follows=port), time.monotonic()
+            self.comes(lambda: time.monotonic() > began + 1.5)
+            self.says(node, port, UNREACHED)
+
+    def test_a_host_that_is_no_address(self):
+        node, began = self.node(), time.monotonic()
+        self.assertTrue(node.follow(6379, "nowhere.invalid"))
+        self.comes(lambda: time.monotonic() > began + 1.5)
+        self.says(node, 6379, UNDIALLED, host="nowhere.invalid")
+
+    def test_a_peer_that_closes_at_once(self):
+        self.tells(closes, UNREACHED)
+
+    def test_an_error(self):
+        """In the place of any answer: the error is told."""
+        copies = GREETED + WHOLE + b"a" * 40 + b" 27\r\n"
+        for before in (b"", GREETED[:7], GREETED):
+            self.tells(garbage(before + b"-NOAUTH Authentication required.\r\n+OK\r\n"), b"refused by it: -NOAUTH Authentication required.")
+        self.tells(garbage(copies + b"-ERR late\r\n"), b"whole copy begins", b"refused by it: -ERR late")
+
+    def test_a_line_that_may_not_stand_there(self):
+        for before, bad, shown in (
+            (b"", b"HTTP/1.1 400 Bad Request\r\n\r\n", b"HTTP/1.1 400 Bad Request"),
+            (b"", b"\0\xffx", b"??x"),
+            (b"", b"$27\r\n" + SET, b"$27"),
+            (GREETED, b"+OK\r\n", b"+OK"),
+            (GREETED, b"x" * 200, b"x" * 100),
+        ):
+            self.tells(garbage(before + bad), b"left for a bad line: " + shown)
+        self.tells(garbage(GREETED + WHOLE + b"a" * 40 + b" 27\r\n+OK\r\n"), b"whole copy begins", b"left for a bad line: +OK")
+
+    def test_bytes_that_are_no_copy(self):
+        for bad in (27 * b"x", SET[:-1] + b"x", request("GET", "kk")):
+            self.tells(garbage(GREETED + WHOLE + b"a" * 40 + b" 27\r\n$27\r\n" + bad), b"whole copy begins", b"left for bad bytes in a whole copy")
+
+    def test_a_copy_that_breaks_off(self):
+        def does(link):
+            link.sendall(GREETED + WHOLE + b"a" * 40 + b" 27\r\n$27\r\n" + SET[:-1])
+
+        self.tells(does, b"whole copy begins", b"link lost within a whole copy")
+
+    def test_bytes_in_the_stream(self):
+        """Of no effect, or of one that doesn't apply: the offset is that behind which they stand."""
+        for bad in (b"garbage\r\n", request("GET", "k"), request("LPUSH", "k", "x")):
+            master = Played()
+            fake = self.fake(master)
+            node = self.node(follows=fake.port)
+            self.comes(lambda: node.said().shows == ("a" * 40, 27))
+            master.says(SET_W + bad)
+            self.comes(lambda: len(master.links) == 2)
+            port, told = fake.port, node.told()
+            replica = b"replica of %s:%d, " % (HOST.encode(), port)
+            told = [it[len(replica) :] for it in told if it.startswith(replica)]
+            # with nothing to continue, a copy comes again
+            self.assertEqual(told[4:6], [b"left for bad bytes in its stream behind offset 54", b"not in its stream"])
+
+
 class Groups(Replicating):
     """A master that the test plays sends several effects as one group: a replica does all of it or nothing, and shows no offset within it."""
 
@@ -255,7 +337,7 @@ class Groups(Replicating):
         self.comes(lambda: self.look()[0] == ("a" * 40, 110))
         self.master.says(framed(request("DEL", "a"), request("SET", "b", "w"), request("LPUSH", "k", "x"), request("SET", "c", "w")))
         ended = self.replica.ended()
-        self.assertEqual((ended.returncode, ended.stdout, ended.stderr), (3, b"", b"minired: out of memory\n"))
+        self.assertEqual((ended.returncode, ended.stdout, ended.stderr), (3, b"", b"minired: out of memory, or a group in the master's stream that does not apply as a whole\n"))
         self.assertEqual(self.bytes(), SET + PAIR)
         self.replica = self.node(aof=self.path)
         self.assertEqual((self.look()[1], self.replica.asks("DBSIZE")), (array("1", "2", "v"), number(3)))

@@ -163,7 +163,7 @@ class Asking(Playing):
 
 
 # as many bytes as a node of 64 bits has room for where it sets no limit, and as a client's link takes
-ENDLESS, ROOM = 2**64 - 1, 33_554_432
+ENDLESS, ROOM = 2**64 - 1, 1_073_741_824
 # what closes the link of a replica at its master
 NO_ACKNOWLEDGEMENTS = [
     "PING\r\n", "NOTHING\r\n", "GET\r\n", "QUIT\r\n", "SHUTDOWN\r\n", "SET k v\r\n", "PSYNC ? -1\r\n", "REPLICAOF NO ONE\r\n", "REPLICAOF h 1\r\n", "BGREWRITEAOF\r\n",
@@ -239,10 +239,12 @@ SPOILED = [
     (CONTINUED, [
         request("FOO"), request("LPOP", "k", "1"), request("set", "k", "w"), request("GET", "k"), request("PING", "k"), b"*0", b"*-", b"\r\n", b"+OK\r\n", b"SET k w\r\n",
         EXEC, framed(), framed(SET_W), MULTI + MULTI, MULTI + SET_W + PING, MULTI + SET_W + request("GET", "k"), MULTI + b"*0", framed(request("LPOP", "k", "1"), SET_W),
+        # a note stands in a file alone
+        b"#", b"#\n", b"#TS:5\r\n" + SET_W, MULTI + SET_W + b"#\n",
     ]),
     (ANNOUNCED, [
         b"$3\r\nabc", b"$100\r\n" + request("FOO"), b"$13\r\n" + request("FOO"), b"$28\r\n" + request("LPOP", "k", "1"),
-        b"$26\r\n" + SET_W[:26], b"$28\r\n" + SET_W + b"*", b"$2\r\n\r\n",
+        b"$26\r\n" + SET_W[:26], b"$28\r\n" + SET_W + b"*", b"$2\r\n\r\n", b"$1\r\n#", b"$29\r\n#\n" + SET_W, b"$34\r\n" + SET_W + b"#TS:5\r\n",
     ]),
 ]
 
@@ -555,17 +557,17 @@ class Lasting(Playing):
         self.assertEqual((master.room(other), master.answers(client, "GET k\r\n")), (ROOM, bulk("v")))
 
     def test_a_full_input_is_never_idle(self):
-        # the longest request: two words, of 16,777,216 and of 16,777,186 bytes
+        # the longest request: two words, of 536,870,912 and of 536,870,880 bytes
         master = self.master()
-        client = master.open()
-        master.feed(client, b"*2\r\n$16777216\r\n")
-        for _ in range(16):
-            master.feed(client, bytes(1_048_576))
+        client, piece = master.open(), bytes(16_777_216)
+        master.feed(client, b"*2\r\n$536870912\r\n")
+        for _ in range(32):
+            master.feed(client, piece)
         self.assertEqual(master.step(client), IDLE)
-        master.feed(client, b"\r\n$16777186\r\n")
-        for _ in range(15):
-            master.feed(client, bytes(1_048_576))
-        master.feed(client, bytes(1_048_546))
+        master.feed(client, b"\r\n$536870880\r\n")
+        for _ in range(31):
+            master.feed(client, piece)
+        master.feed(client, piece[:-32])
         self.assertEqual((master.room(client), master.step(client)), (2, IDLE))
         self.refuses("input full", lambda: master.feed(client, b"\r\nx"))
         self.assertEqual(master.room(client), 2)
@@ -574,9 +576,8 @@ class Lasting(Playing):
         self.assertEqual(sent(client, master.does(client)), UNKNOWN)
         self.assertEqual((master.room(client), master.unread(client)), (ROOM, 0))
         # a line that never ends
-        for _ in range(32):
-            master.feed(client, 1_048_576 * b"x")
-        self.assertEqual(master.room(client), 0)
+        master.feed(client, 65_537 * b"x")
+        self.assertEqual(master.room(client), ROOM - 65_537)
         self.assertEqual(master.does(client), [("send", client, TOO_LONG), ("close", client)])
 
     def test_a_master_may_send_without_end(self):

@@ -3,23 +3,31 @@
 Wherever two nodes show one id and offset they hold one dataset, whatever happened before: each test looks at them as it goes on."""
 
 import random
+import re
 import time
 import unittest
 
 from tests.support.handshake import GREETED, PART, WHOLE
 from tests.support.program import request
 from tests.support.random_keys import RandomKeys
+from tests.support.replicas import Played, Writes
 from tests.support.replicating import NO_ID, Replicating, leads
 from tests.support.replies import CHAINED, INTEGER, NIL, OK, READONLY, array, bulk, number, read
 from tests.support.requests import FAR, PING, SET
-from tests.support.server import HOST, free_port
+from tests.support.server import HOST, MIB, free_port
 
 LITTLE, MUCH = 64, 1 << 20
 # a master with replicas writes one of 14 bytes into its stream every ten seconds
 BEAT, BEAT_AFTER = len(PING), 10
 # so many replicas are cut at once, so often each
 CUT_REPLICAS, CUTS = 4, 24
-KILLS = 30
+# how many bytes the greatest word has, and a large one
+MOST, LARGE = 512 * MIB, 20 * MIB
+# rounds with kills, what their choices are drawn by, and how much of its stream a node keeps then
+ROUNDS, SEED, BACKLOGS = 200, 1, (LITTLE, 1 << 10, 1 << 16, MUCH)
+
+# the end of a line that tells of a copy, and that of one of a master that isn't there
+LENGTH, UNREACHED = re.compile(rb"in \d+\.\d s$"), b"not reached, or link lost in the handshake"
 
 # a write of each type, one way to read it, and what is then read
 TOLD = [
@@ -172,7 +180,7 @@ class Promotion(Replicating):
         self.assertEqual(returned.asks("GET", "after"), first.asks("GET", "after"))
 
     def test_a_server_says_what_role_it_has_come_to(self):
-        """On standard error: without its master's stream, in it, without it again, and a master of its own."""
+        """On standard error: without its master's stream, by a whole copy in it, without it again as the link is lost, and a master of its own."""
         master = self.node()
         self.assertEqual(master.asks("SET", "k", "v"), OK)
         node = self.node(follows=master.port)
@@ -183,10 +191,34 @@ class Promotion(Replicating):
         self.comes(lambda: b"connected" not in node.asks("ROLE"))
         new = self.promoted(node)
         replica = b"replica of %s:%d, " % (HOST.encode(), master.port)
-        told = [replica + b"not in its stream", replica + b"in its stream at offset %d" % found.shows[1], replica + b"not in its stream"]
-        self.assertEqual(node.kill().notices[1:], told + [b"a master, at offset %d" % new.offset])
+        copied = [b"not in its stream", b"whole copy begins", b"whole copy of 27 bytes in S s", b"in its stream at offset %d" % found.shows[1]]
+        told = [replica + it for it in (*copied, b"link lost in its stream", b"not in its stream")]
+        # it is dialled again until then
+        noticed = [LENGTH.sub(b"in S s", it) for it in node.told()[1:] if not it.endswith(UNREACHED)]
+        self.assertEqual(noticed, told + [b"a master, at offset %d" % new.offset])
         # who never was a replica says nothing of it
         self.assertEqual(ended.notices[1:], [])
+
+    def test_a_server_says_that_it_goes_on(self):
+        """Behind a link that was cut no copy is needed, and from where the stream goes on is told."""
+        master = self.node()
+        proxy = self.proxy(master)
+        node = self.node(follows=proxy.port)
+        self.assertEqual(master.asks("SET", "k", "v"), OK)
+        found = self.caught_up(master, node)
+        proxy.lets_go.clear()
+        proxy.links[-1].cut()
+        self.comes(lambda: b"connected" not in node.asks("ROLE"))
+        self.assertEqual(master.asks("SET", "k", "w"), OK)
+        proxy.lets_go.set()
+        self.caught_up(master, node)
+        replica = b"replica of %s:%d, " % (HOST.encode(), proxy.port)
+        lost, apart, goes_on, there = [it[len(replica) :] for it in node.told() if it.startswith(replica)][-4:]
+        self.assertEqual((lost, apart), (b"link lost in its stream", b"not in its stream"))
+        offsets = [int(said.removeprefix(text)) for text, said in ((b"goes on from offset ", goes_on), (b"in its stream at offset ", there))]
+        # heartbeats may come in between
+        self.assertGreaterEqual(offsets[0], found.shows[1])
+        self.assertGreaterEqual(offsets[1], offsets[0])
 
     def demoted(self, writes):
         """A master that did so many writes which no replica has is told to follow the replica that was promoted: the proxy between, and both."""
@@ -354,8 +386,7 @@ class Cuts(Replicating):
             if not waits:
                 # a cut that is still to come ends with this round
                 for proxy in proxies:
-                    proxy.cuts = []
-                    proxy.links[-1].most_heard = None
+                    proxy.cut_no_more()
                 continue
             for proxy, count in zip(proxies, counts):
                 waited.append(proxy.heard()[count:])
@@ -381,17 +412,19 @@ class Cuts(Replicating):
         master = self.node()
         self.assertEqual(master.asks("SET", "k", "v"), OK)
         id = master.said().id
-        copy = GREETED + WHOLE + id.encode() + b" 27\r\n$27\r\n" + SET
+        # on a slow machine heartbeats come in between: of them the offset tells alone
+        copies = {at: GREETED + WHOLE + id.encode() + b" %d\r\n$27\r\n" % at + SET for at in range(27, 100, BEAT)}
+        size = len(copies[27])
         nodes = [self.node() for _ in range(8)]
-        for first in range(0, len(copy) + 1, len(nodes)):
-            begun = [(it, *self.begins_anew(it, master, cut)) for it, cut in zip(nodes, range(first, len(copy) + 1))]
+        for first in range(0, size + 1, len(nodes)):
+            begun = [(it, *self.begins_anew(it, master, cut)) for it, cut in zip(nodes, range(first, size + 1))]
             for cut, (it, proxy, held) in enumerate(begun, first):
                 # it has dialled again, and is kept waiting
                 self.comes(lambda: len(proxy.links) > 1)
                 look = self.looks(it)[0]
-                wanted = (held.shows, held.held) if cut < len(copy) else ((id, 27), {b"k": (b"+string", b":-1", b"v")})
-                self.assertEqual((look.shows, look.held), wanted, cut)
-                self.assertEqual(proxy.heard()[0], copy[:cut])
+                wanted = [(held.shows, held.held)] if cut < size else [((id, at), {b"k": (b"+string", b":-1", b"v")}) for at in copies]
+                self.assertIn((look.shows, look.held), wanted, cut)
+                self.assertIn(proxy.heard()[0], [it[:cut] for it in copies.values()])
                 proxy.lets_go.set()
             self.caught_up(master, *(it for it, _, _ in begun))
 
@@ -438,60 +471,144 @@ def next_cut(chance):
     return heard, said, chance.random() < 0.3
 
 
+class LargeWords(Replicating):
+    """A word that comes to a replica in many pieces."""
+
+    def test_one_whose_link_is_cut_within_it(self):
+        """Before its last byte it isn't there. It is sent again, by a part of the stream where the backlog has it and else in a copy; and the file has it."""
+        value = random.Random(20).randbytes(LARGE)
+        for backlog, answer in ((2 * LARGE, PART), (MUCH, WHOLE)):
+            with self.subTest(backlog=backlog):
+                master = self.node(backlog=backlog)
+                proxy = self.proxy(master)
+                replica = self.node(aof=self.path, follows=proxy.port)
+                self.caught_up(master, replica)
+                proxy.free = len(proxy.links)
+                proxy.lets_go.clear()
+                proxy.links[-1].cut_after(LARGE // 3)
+                self.assertEqual(master.asks("SET", "large", value), OK)
+                self.comes(lambda: len(proxy.links) > proxy.free)
+                self.assertEqual(replica.asks("EXISTS", "large"), number(0))
+                proxy.lets_go.set()
+                self.caught_up(master, replica)
+                self.assertIn(answer, proxy.heard()[-1][:200])
+                self.assertTrue(replica.asks("GET", "large") == bulk(value))
+                replica.kill()
+                alone = self.node(aof=self.path)
+                self.assertTrue(alone.asks("GET", "large") == bulk(value))
+                alone.kill()
+
+    def test_one_that_is_announced_and_comes_in_part(self):
+        """It costs what came of it, and not what was announced; the replica serves on."""
+        master, part = Played(), 4 * MIB
+        replica = self.node(follows=self.fake(master).port)
+        self.comes(lambda: master.links and replica.said().offset == 27)
+        before = replica.memory()
+        master.says(b"*3\r\n$3\r\nSET\r\n$1\r\nk\r\n$%d\r\n" % MOST + random.Random(21).randbytes(part))
+        self.comes(lambda: replica.memory() >= before + part)
+        self.assertEqual((replica.asks("GET", "k"), replica.said().offset), (bulk("v"), 27))
+        self.assertLess(replica.peak(), before + 4 * part)
+
+
 class Kills(Replicating):
-    """Three nodes, of which one is killed again and again in the middle of writes."""
+    """Three nodes, of which two follow the third, each through a proxy. In each round one is killed in the middle of writes, and links are cut at any byte.
+    Where the master was killed, and now and then else, a replica is promoted. The killed one comes back, and at the end all hold the same."""
 
     def setUp(self):
         super().setUp()
-        self.chance = random.Random(self.id())
-        paths = [None, self.path, None]
-        # what each node is started with again, whatever it follows then
-        self.how = {}
-        self.nodes = []
-        for path in paths:
-            how = {"aof": path, "sync": path and "no", "port": free_port(), "backlog": self.chance.choice((LITTLE, MUCH))}
-            node = self.node(follows=self.nodes[0].port if self.nodes else None, **how)
-            self.nodes.append(node)
-            self.how[node.port] = how
-        self.master = self.nodes[0]
+        self.chance, self.writes = random.Random(SEED), Writes(SEED)
+        # the second node has a file; each is at its port whenever it is there
+        self.files = {free_port(): {"aof": path, "sync": path and "no"} for path in (None, self.path, None)}
+        # the proxy through which each replica follows now, and all that there were
+        self.between, self.proxies = {}, []
+        first, *others = self.files
+        self.master = self.starts(first)
+        self.nodes = [self.master, *(self.starts(it, self.way(it)) for it in others)]
 
-    def starts_again(self, node, follows):
-        """The node is started again on its port, with its file."""
-        again = self.node(follows=follows, **self.how[node.port])
-        self.nodes[self.nodes.index(node)] = again
-        return again
+    def starts(self, port, follows=None):
+        """The node at a port is started. Of its stream it keeps as much as is drawn."""
+        return self.node(port=port, follows=follows, backlog=self.chance.choice(BACKLOGS), **self.files[port])
+
+    def way(self, port):
+        """Where the node at a port is to follow the master: at a new proxy, which takes the place of the one before."""
+        self.leaves(port)
+        proxy = self.between[port] = self.proxy(self.master)
+        proxy.cuts = self.cuts()
+        self.proxies.append(proxy)
+        return proxy.port
+
+    def leaves(self, port):
+        """The proxy is closed through which the node at a port has followed."""
+        if port in self.between:
+            self.between.pop(port).close()
+
+    def cuts(self):
+        """Where the next links of a replica are cut."""
+        return [next_cut(self.chance) for _ in range(self.chance.randrange(4))]
+
+    def cut_links(self):
+        """Each replica's link goes on, or is cut at once or within what the master says next; the next ones come at once, or wait until all is written."""
+        for proxy in self.between.values():
+            proxy.cuts = self.cuts()
+            if self.chance.random() < 0.3:
+                proxy.lets_go.clear()
+            if proxy.links and self.chance.random() < 0.7:
+                proxy.links[-1].cut_after(self.chance.choice((0, self.chance.randrange(400), self.chance.randrange(4000))))
 
     def killed(self):
-        """One of the nodes is killed while a client's writes are under way."""
-        node = self.chance.choice(self.nodes)
+        """One of the nodes is killed while a client's writes are under way. Where it isn't the master, all of these are done then."""
+        node, count = self.chance.choice(self.nodes), self.chance.randint(1, 200)
         with self.master.client() as client:
-            self.writes.send(client, self.chance.randint(1, 200))
+            self.writes.send(client, count)
             delay = time.monotonic() + self.chance.choice((0, 0.0005, 0.003))
             self.comes(lambda: time.monotonic() >= delay)
             node.kill()
+            for _ in range(count if node is not self.master else 0):
+                client.reply()
+        self.writes.note()
         return node
+
+    def promotes_another(self, there):
+        """A replica of those that are there takes the master's place and writes, and the others follow it: the old master too, which may have written more."""
+        self.looks(*there)
+        old, self.master = self.master, self.chance.choice([it for it in there if it is not self.master])
+        self.leaves(self.master.port)
+        self.promoted(self.master)
+        for it in (self.master, old):
+            if it in there:
+                self.writes.play(it, self.chance.choice((0, 0, 1, 9)))
+        for it in there:
+            if it is not self.master:
+                self.assertTrue(it.follow(self.way(it.port)))
 
     def goes_on(self, killed):
         """The killed node is started again: as a replica, or where it was the master perhaps as that, with what its file has."""
-        if killed is not self.master:
-            self.starts_again(killed, self.master.port)
-        elif self.chance.random() < 0.3:
-            self.master = self.starts_again(killed, None)
-        else:
-            others = [it for it in self.nodes if it is not killed]
-            self.chance.shuffle(others)
-            self.master, other = others
-            self.looks(*others)
-            self.promoted(self.master)
-            self.writes.play(self.master, self.chance.randrange(10))
-            self.assertTrue(other.follow(self.master.port))
-            self.starts_again(killed, self.master.port)
+        place, was_master = self.nodes.index(killed), killed is self.master
+        if was_master and self.chance.random() < 0.3:
+            self.master = self.nodes[place] = self.starts(killed.port)
+            return
+        if was_master or self.chance.random() < 0.4:
+            self.promotes_another([it for it in self.nodes if it is not killed])
+        self.nodes[place] = self.starts(killed.port, self.way(killed.port))
+
+    def plays_a_round(self):
+        self.cut_links()
+        self.goes_on(self.killed())
+        self.cut_links()
+        self.writes.play(self.master, self.chance.randrange(20))
+        for it in self.between.values():
+            it.cut_no_more()
+        self.caught_up(self.master, *(it for it in self.nodes if it is not self.master))
 
     def test_nodes_never_differ_in_silence(self):
-        for _ in range(KILLS):
-            self.goes_on(self.killed())
-            self.writes.play(self.master, self.chance.randrange(20))
-            self.caught_up(self.master, *(it for it in self.nodes if it is not self.master))
+        for at in range(ROUNDS):
+            try:
+                self.plays_a_round()
+            except Exception as error:
+                raise AssertionError("in round %d of seed %d" % (at, SEED)) from error
+        heard = [it for proxy in self.proxies for it in proxy.heard()]
+        for answer in (WHOLE, PART):
+            self.assertGreater(sum(answer in it for it in heard), ROUNDS // 4, answer)
 
 
 class Files(Replicating):

@@ -6,6 +6,7 @@ import sys
 import unittest
 from collections import Counter
 from itertools import islice
+from unittest import mock
 
 from tests.models.dataset import Given, rebuild
 from tests.models.node import CLOSED, IDLE, LIMIT, Append, Close, Grow, Halt, Node, NodeFault, Replace, Send, Used
@@ -305,11 +306,14 @@ class Refusals(unittest.TestCase):
 
     def test_input_that_is_full(self):
         """No more than a request's longest text is taken of a client, and the reasons before this one come first."""
+        self.addCleanup(mock.patch.stopall)
+        # a gigabyte of the model's bytes would take seconds
+        mock.patch("tests.models.node.MOST_OF_A_TEXT", 1000).start()
         world = World()
         for line in (b"start a", b"client 0"):
             answer(world, line)
-        world.command(0, b"*" * 33_554_433)
-        told = [answer(world, line) for line in (b"deliver 0 b 33554433", b"deliver 0 b 33554434", b"deliver 0 b 33554432", b"deliver 0 b 1")]
+        world.command(0, b"*" * 1001)
+        told = [answer(world, line) for line in (b"deliver 0 b 1001", b"deliver 0 b 1002", b"deliver 0 b 1000", b"deliver 0 b 1")]
         self.assertEqual(told, [b"refused 5", b"refused 3", b"ok", b"refused 5"])
         self.assertEqual([answer(world, line) for line in (b"step 0 b 0 0 1", b"deliver 0 b 1")], [b"ok", b"refused 2"])
         self.assertEqual(world.took(0, 0), b"")

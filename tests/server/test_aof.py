@@ -14,7 +14,7 @@ import unittest
 from tests.support.files import InFolder
 from tests.support.program import LATE, LAUNCHER, PROGRAM, needs, notices, request, run, shim
 from tests.support.random_keys import RandomKeys
-from tests.support.replies import ABORTED, INTEGER, NIL, OK, PONG, QUEUED, STARTED, arity, array, array_of, bulk
+from tests.support.replies import ABORTED, INTEGER, NIL, OK, PONG, QUEUED, STARTED, arity, array, array_of, bulk, role_of_master
 from tests.support.requests import EXEC, FAR, GET, MULTI, PAIR, PING, SET, SET_A, SET_B, SET_W, SET_X, framed
 
 TORN = b"*3\r\n$3\r\nSE"
@@ -22,7 +22,7 @@ TORN = b"*3\r\n$3\r\nSE"
 PIECE = 65_536
 # how often the program is killed in the middle of a stream of writes
 KILLS = 200
-REWRITE = request("BGREWRITEAOF")
+REWRITE, ROLE = request("BGREWRITEAOF"), request("ROLE")
 # how often it is killed in the middle of a rewriting, of a file of so many keys
 REWRITING_KILLS, REWRITTEN_KEYS = 60, 10_000
 
@@ -126,8 +126,8 @@ class Starting(OfFile):
         self.answers(GET, bulk(value))
 
 
-class Grouped(OfFile):
-    """A file has groups: effects, and several between MULTI and EXEC. What is loaded is the longest beginning of groups that can be done as a whole."""
+class Loading(OfFile):
+    """What is loaded of a file, and what is cut off."""
 
     ASKED = request("MGET", "a", "b", "k")
     NEITHER, BOTH = array(None, None, "v"), array("1", "2", "v")
@@ -139,6 +139,20 @@ class Grouped(OfFile):
         self.assertTrue(self.bytes() == good)
         self.answers(asked, wanted)
         self.assertTrue(self.bytes() == good)
+
+    def loads_each_beginning(self, texts, counts):
+        """Of each beginning of a file that is these texts as many are loaded as are whole; so many keys are there then."""
+        whole, sizes = b"".join(texts), [sum(map(len, texts[:count])) for count in range(len(texts) + 1)]
+        for cut in range(len(whole) + 1):
+            with self.subTest(cut=cut):
+                count = max(count for count, size in enumerate(sizes) if size <= cut)
+                self.write(whole[:cut])
+                self.answers(request("DBSIZE"), b":%d\r\n" % counts[count], cut=whole[sizes[count] : cut] or None)
+                self.assertEqual(self.bytes(), whole[: sizes[count]])
+
+
+class Grouped(Loading):
+    """A file has groups: effects, and several between MULTI and EXEC. What is loaded is the longest beginning of groups that can be done as a whole."""
 
     def test_a_group_is_loaded_with_its_last_byte(self):
         self.assertEqual((len(SET), len(PAIR)), (27, 83))
@@ -172,14 +186,7 @@ class Grouped(OfFile):
 
     def test_any_beginning_of_a_file_loads_its_whole_groups(self):
         texts = [SET, PAIR, request("HSET", "h", "f", "v"), framed(request("RPUSH", "l", "a"), request("SADD", "s", "m"), request("ZADD", "z", "1", "m")), PAIR, SET_W]
-        whole, counts = b"".join(texts), [0, 1, 3, 4, 7, 7, 7]
-        sizes = [sum(map(len, texts[:count])) for count in range(len(texts) + 1)]
-        for cut in range(len(whole) + 1):
-            with self.subTest(cut=cut):
-                count = max(count for count, size in enumerate(sizes) if size <= cut)
-                self.write(whole[:cut])
-                self.answers(request("DBSIZE"), b":%d\r\n" % counts[count], cut=whole[sizes[count] : cut] or None)
-                self.assertEqual(self.bytes(), whole[: sizes[count]])
+        self.loads_each_beginning(texts, [0, 1, 3, 4, 7, 7, 7])
 
     def test_a_group_of_several_pieces_of_the_file(self):
         """Of small effects and of large ones; and what is missing at its end is its last byte, or most of it."""
@@ -221,6 +228,72 @@ class Grouped(OfFile):
             self.assertTrue(self.bytes() == whole)
         self.answers(self.ASKED, self.BOTH)
         self.assertTrue(self.bytes() == whole)
+
+
+class Noted(Loading):
+    """Between the groups of a file notes may stand, as those of the time that a tool has put there. They are kept and do nothing."""
+
+    NOTE = b"#TS:1700000000\r\n"
+
+    def test_a_note_without_its_line_feed_is_cut_off(self):
+        good = b"#TS:5\r\n" + SET
+        self.assertEqual(len(good), 34)
+        self.loads(good, bulk("v"), GET, cut=b"#TS:6")
+
+    def test_one_that_is_too_long_ends_what_is_loaded(self):
+        for good in (b"", SET, SET + self.NOTE):
+            self.loads(good, bulk("v") if good else NIL, GET, cut=b"#" + 65_537 * b"x" + b"\n")
+        self.loads(b"#" + 65_536 * b"x" + b"\n" + SET, bulk("v"), GET, cut=b"#" + 65_538 * b"x")
+
+    def test_notes_of_the_time_between_groups(self):
+        """As Redis puts them in front of what was done in one second."""
+        good = b"".join(b"#TS:%d\r\n" % (1_700_000_000 + at) + text for at, text in enumerate((SET, PAIR, SET_W)))
+        self.loads(good, array("1", "2", "w"), self.ASKED)
+        self.loads(good + self.NOTE + self.NOTE, array("1", "2", "w"), self.ASKED)
+
+    def test_within_a_group_there_is_none(self):
+        for at in (15, 42, 69):
+            self.loads(SET, self.NEITHER, cut=PAIR[:at] + self.NOTE + PAIR[at:] + PAIR)
+
+    def test_a_file_with_notes_is_appended_to(self):
+        good = self.NOTE + SET + self.NOTE
+        self.loads(good, self.NEITHER)
+        self.answers(MULTI + SET_A + SET_B + EXEC + SET_W, OK + 2 * QUEUED + array_of(OK, OK) + OK)
+        self.assertEqual(self.bytes(), good + PAIR + SET_W)
+        self.loads(good + PAIR + SET_W, array("1", "2", "w"))
+        self.answers(REWRITE + self.ASKED, STARTED + array("1", "2", "w"))
+        self.assertEqual(self.bytes(), SET_A + SET_B + SET_W)
+
+    def test_any_beginning_of_a_file_with_notes(self):
+        texts = [b"#\n", SET, self.NOTE, b"##\r\n", PAIR, b"#TS:5\n"]
+        self.loads_each_beginning(texts, [0, 0, 1, 1, 1, 3, 3])
+
+    def test_notes_about_where_a_piece_of_the_file_ends(self):
+        long = b"#" + 65_536 * b"x" + b"\n"
+        for past in (0, 1, 2, 15, 16, 17):
+            filling = request("SET", "k", (PIECE - past - 30) * b"v")
+            self.assertEqual(len(filling), PIECE - past)
+            for note in (self.NOTE, long):
+                with self.subTest(past=past, note=len(note)):
+                    self.loads(filling + note + PAIR + note + SET, self.BOTH)
+                    self.loads(filling + PAIR + note + SET, self.BOTH, cut=note[:-1])
+
+    def test_a_torn_group_behind_notes(self):
+        torn = framed(SET_A, request("INCRBY", "k", "1"))
+        self.loads(self.NOTE + SET + self.NOTE, self.NEITHER, cut=torn + self.NOTE + SET_W)
+
+    def test_no_offset_counts_them(self):
+        """Behind a start the offset is 0, whatever was loaded, and behind the first effect as great as that is long."""
+        for good in (self.NOTE, self.NOTE + SET + self.NOTE, 1000 * self.NOTE + PAIR):
+            self.write(good)
+            self.answers(ROLE + SET_X + ROLE, role_of_master(0) + OK + role_of_master(27))
+            self.assertEqual(self.bytes(), good + SET_X)
+
+    def test_a_request_does_not_begin_with_one(self):
+        """What a client sends is no file."""
+        ran = self.asked(self.NOTE + SET)
+        self.assertTrue(ran.stdout.startswith(b"-ERR unknown command"))
+        self.assertEqual(self.bytes(), SET)
 
 
 class Transacting(OfFile):

@@ -58,6 +58,9 @@ BAD_LINES = [
     (["serve", "--port", "1", "--backlog", "0"], b"0 is not in 1..=1073741824"),
     (["serve", "--port", "1", "--backlog", "1073741825"], b"1073741825 is not in 1..=1073741824"),
     (["serve", "--port", "1", "--backlog", "2", "--backlog", "2"], b"multiple times"),
+    (["serve", "--port", "1", "--repl-timeout", "x"], b"x"),
+    (["serve", "--port", "1", "--repl-timeout", "0"], b"0 is not in 1..=86400"),
+    (["serve", "--port", "1", "--repl-timeout", "86401"], b"86401 is not in 1..=86400"),
     (["serve", "--port", "1", "--replicaof"], b"--replicaof <replicaof>"),
     (["serve", "--port", "1", "--replicaof", "h:2", "--replicaof", "h:2"], b"multiple times"),
     (["serve", "--port", "1", "--replicaof", "h", "2"], b"2"),
@@ -133,18 +136,18 @@ class Questions(unittest.TestCase):
             with self.subTest(words=words):
                 ran = run(PING, *words)
                 self.assertEqual((ran.returncode, ran.stderr), (0, b""))
-                words_of_it = ("serve", "pipe", "trio", "--port", "--aof", "--sync", "--turns", "--backlog", "--replicaof", "--bind", "--id", "--now", "--word")
+                words_of_it = ("serve", "pipe", "trio", "--port", "--aof", "--sync", "--turns", "--backlog", "--replicaof", "--bind", "--repl-timeout", "--id", "--now", "--word")
                 for word in (*words_of_it, "--help", "--version"):
                     self.assertRegex(ran.stdout, rb"(?m)(^|[\s|\[])" + re.escape(word.encode()) + rb"\b")
-                for usual in ("always", "1000000000000", "1048576", "127.0.0.1", "40 times a", "usually 0"):
+                for usual in ("always", "1000000000000", "1048576", "127.0.0.1", "usually 60", "40 times a", "usually 0"):
                     self.assertIn(usual.encode(), ran.stdout)
                 self.assertTrue(all(len(line) <= 120 for line in ran.stdout.decode().split("\n")))
 
     def test_each_line_of_the_help_is_taken_by_the_parser(self):
         said = run(b"", "--help").stdout.decode()
         values = {"--port": "6379", "--aof": "", "--sync": "always", "--turns": "0", "--id": 40 * "a", "--now": "0", "--word": "0"}
-        values |= {"--backlog": "1048576", "--replicaof": "127.0.0.1:6379", "--bind": "127.0.0.1"}
-        self.assertEqual(set(re.findall(r"--\w+", said)), {*values, "--help", "--version"})
+        values |= {"--backlog": "1048576", "--replicaof": "127.0.0.1:6379", "--bind": "127.0.0.1", "--repl-timeout": "60"}
+        self.assertEqual(set(re.findall(r"--[\w-]+", said)), {*values, "--help", "--version"})
         with tempfile.TemporaryDirectory() as folder:
             values["--aof"] = os.path.join(folder, "data.aof")
             words = [it for name in ("--aof", "--id", "--now", "--word") for it in (name, values[name])]

@@ -20,8 +20,8 @@ SHORT_LIVED, A_SECOND = 200_000, 20_000
 AT_ONCE = 1_000_000
 # how much memory a level may rise, and an idle server has so many seconds to delete
 LEVEL, SECONDS = 12 * MIB, 20
-# the greatest value that a key may have
-GREATEST = 16 * MIB
+# a large value: four replies of it are as much as a client may leave unread
+LARGE = 16 * MIB
 DEAF = re.compile(rb"clients closed that left more than 64 MiB unread: (\d+)")
 
 
@@ -30,9 +30,9 @@ def offset(client):
     return int(re.search(rb"master_repl_offset:(\d+)", client.asks("INFO", "replication"))[1])
 
 
-def deaf_clients(ended):
+def deaf_clients(told):
     """How many clients each notice says were closed."""
-    return [int(found[1]) for found in map(DEAF.fullmatch, ended.notices) if found]
+    return [int(found[1]) for found in map(DEAF.fullmatch, told) if found]
 
 
 class KeepingUp(Serving):
@@ -102,7 +102,7 @@ class LargeReplies(Serving):
             self.assertEqual(self.other.asks("INCR", "n"), number(at))
 
     def test_one_reply_of_a_hundred_megabytes(self):
-        values = [self.chance.randbytes(GREATEST) for _ in range(6)]
+        values = [self.chance.randbytes(LARGE) for _ in range(6)]
         for value in values:
             self.other.asks("RPUSH", "l", value)
         slow = self.client(self.it, room=65_536)
@@ -111,7 +111,7 @@ class LargeReplies(Serving):
         self.assertEqual(slow.asks("EXISTS", "l"), number(0))
 
     def test_many_keys_at_once(self):
-        values = [self.chance.randbytes(GREATEST) for _ in range(5)]
+        values = [self.chance.randbytes(LARGE) for _ in range(5)]
         for at, value in enumerate(values):
             self.other.asks("SET", "k%d" % at, value)
         slow = self.client(self.it, room=65_536)
@@ -120,7 +120,7 @@ class LargeReplies(Serving):
         self.assertEqual(slow.asks("PING"), PONG)
 
     def test_requests_behind_a_large_reply_wait_for_it(self):
-        value = self.chance.randbytes(GREATEST)
+        value = self.chance.randbytes(LARGE)
         self.other.asks("SET", "k", value)
         slow = self.client(self.it, room=65_536)
         slow.send(GET)
@@ -190,7 +190,7 @@ class Deaf(Serving):
 
     def test_it_is_closed_and_others_are_served(self):
         it = self.serve()
-        other, value = self.client(it), random.Random(11).randbytes(GREATEST)
+        other, value = self.client(it), random.Random(11).randbytes(LARGE)
         self.assertEqual(other.asks("SET", "k", value), OK)
         deaf = self.client(it, room=4096)
         # what it sends comes in one piece, since its replies were small so far
@@ -201,7 +201,7 @@ class Deaf(Serving):
         self.assertEqual(other.asks("INCR", "n"), number(1))
         self.assertTrue((10 * bulk(value)).startswith(deaf.rest()))
         self.goes_on(it)
-        self.assertIn(1, deaf_clients(it.kill()))
+        self.assertIn(1, deaf_clients(it.told()))
 
     def left(self, size):
         """A client that takes nothing sets a value of so many bytes, asks for it four times, and then for a write. What the file has then."""
@@ -213,26 +213,24 @@ class Deaf(Serving):
         self.comes(lambda: os.path.getsize(self.path) > size)
         time.sleep(0.1)
         deaf.send(4 * GET + request("RPUSH", "l", "x"))
-        closed = size == GREATEST
+        closed = size == LARGE
         if closed:
             self.assertEqual(deaf.rest(), b"")
-            # it is told once the turn has ended
-            time.sleep(0.5)
         else:
             self.comes(lambda: self.bytes().endswith(request("RPUSH", "l", "x")))
-        self.assertEqual(deaf_clients(it.kill()), [1] if closed else [])
+        self.assertEqual(deaf_clients(it.told()), [1] if closed else [])
         return self.bytes()[-len(request("RPUSH", "l", "x")) :]
 
     def test_it_is_closed_in_place_of_its_next_step(self):
         # 5 bytes and four times 16,777,229 wait: 57 more than may
-        self.assertEqual(5 + 4 * len(bulk(GREATEST * b"x")), UNREAD + 57)
-        self.assertNotEqual(self.left(GREATEST), request("RPUSH", "l", "x"))
+        self.assertEqual(5 + 4 * len(bulk(LARGE * b"x")), UNREAD + 57)
+        self.assertNotEqual(self.left(LARGE), request("RPUSH", "l", "x"))
         # 3 fewer than may
-        self.assertEqual(self.left(GREATEST - 15), request("RPUSH", "l", "x"))
+        self.assertEqual(self.left(LARGE - 15), request("RPUSH", "l", "x"))
 
     def test_who_is_closed_is_told_once_a_second(self):
         it = self.serve()
-        other, value = self.client(it), random.Random(11).randbytes(GREATEST)
+        other, value = self.client(it), random.Random(11).randbytes(LARGE)
         self.assertEqual(other.asks("SET", "k", value), OK)
         links = it.descriptors()
         for _ in range(3):
@@ -242,7 +240,7 @@ class Deaf(Serving):
             self.comes(lambda: it.descriptors() == links)
         time.sleep(1.1)
         self.assertEqual(other.asks("PING"), PONG)
-        told = deaf_clients(it.kill())
+        told = deaf_clients(it.told())
         self.assertEqual(sum(told), 3)
         self.assertLess(len(told), 4)
 

@@ -8,7 +8,7 @@ from tests.support.program import request
 from tests.support.replies import BULK_LENGTH, CHAINED, COUNT, OK, PONG, QUEUED, QUOTES, READONLY, STARTED, array, array_of, bulk, no_dollar, number
 from tests.support.requests import EXEC, GET, LEAD, MULTI, PAIR, PING, SET, SET_A, SET_B, SET_W, SET_X, framed
 from tests.support.server import UNREAD
-from tests.support.turns import ADDRESS, ALL, ENDS, FAILED, FAILS, NOT_READY, OBEY, Peer, Playing, counts, peer
+from tests.support.turns import ADDRESS, ALL, ENDS, FAILED, FAILS, NOT_READY, OBEY, Followed, Peer, Playing, counts, followed, peer
 
 # beginnings of requests whose last byte no request has there, and the refusal
 DOOMED = [
@@ -21,12 +21,12 @@ DOOMED = [
     (b'"a"b', QUOTES),
     (b'"a\n', QUOTES),
     (b'"' + 65_535 * b"x", QUOTES),
-    (b"*1\r\n$16777217", BULK_LENGTH),
+    (b"*1\r\n$536870913", BULK_LENGTH),
     (b"*1048577", COUNT),
 ]
-# the greatest value
-GREATEST = 16_777_216
-# how many turns it takes to read the greatest value
+# a large value: four replies of it are as much as a client may leave unread
+LARGE = 16_777_216
+# how many turns it takes to read such a value
 LONG = 6
 OFFERS = asks_from("b", 1)
 
@@ -67,35 +67,35 @@ class Deaf(Playing):
 
     def test_who_reads_nothing_is_closed_in_place_of_a_step(self):
         # a reply to SET, and four to GET
-        self.assertEqual(5 + 4 * len(bulk(GREATEST * b"x")), UNREAD + 57)
-        done, deaf, link = self.left(GREATEST, takes=[])
+        self.assertEqual(5 + 4 * len(bulk(LARGE * b"x")), UNREAD + 57)
+        done, deaf, link = self.left(LARGE, takes=[])
         self.assertEqual((done, deaf, link.state, link.written), (5, 1, "closed", b""))
 
     def test_who_takes_one_byte_too_few_is_closed_too(self):
-        done, deaf, link = self.left(GREATEST, takes=[NOT_READY, 56])
+        done, deaf, link = self.left(LARGE, takes=[NOT_READY, 56])
         self.assertEqual((done, deaf, link.state, len(link.written)), (5, 1, "closed", 56))
 
     def test_who_takes_just_as_much_goes_on(self):
-        done, deaf, link = self.left(GREATEST, takes=[NOT_READY, 57])
+        done, deaf, link = self.left(LARGE, takes=[NOT_READY, 57])
         self.assertEqual((done, deaf, link.state, len(link.written)), (6, 0, "open", 57))
 
     def test_who_left_a_little_less_goes_on(self):
-        done, deaf, link = self.left(GREATEST - 15, takes=[])
+        done, deaf, link = self.left(LARGE - 15, takes=[])
         self.assertEqual((done, deaf, link.state), (6, 0, "open"))
 
     def test_the_end_of_a_transaction_is_one_step(self):
         """More may come of it at once than a client may leave unread; in place of the next step who takes nothing of it is closed."""
-        size = 5 + 5 + 5 * len(QUEUED) + len(array(*(5 * [GREATEST * b"x"])))
+        size = 5 + 5 + 5 * len(QUEUED) + len(array(*(5 * [LARGE * b"x"])))
         self.assertGreater(size, UNREAD)
         for more, takes, done, deaf, state in ((b"", [], 8, 0, "open"), (PING, [], 8, 1, "closed"), (PING, 30, 9, 0, "open")):
-            turns, _ = self.plays(LONG, accepts=[peer(request("SET", "k", GREATEST * b"x"), MULTI + 5 * GET + EXEC + more, takes=takes)])
+            turns, _ = self.plays(LONG, accepts=[peer(request("SET", "k", LARGE * b"x"), MULTI + 5 * GET + EXEC + more, takes=takes)])
             link = turns[-1].links.accepted[0]
             self.assertEqual((counts(turns)[0], counts(turns)[2], link.state), (done, deaf, state))
             self.assertEqual(len(link.written), 0 if takes == [] else size + len(PONG))
 
     def test_a_replica_that_reads_nothing_is_kept(self):
         """More waits for it than a client may leave unread, and what it says goes on to be used."""
-        sets = b"".join(request("SETRANGE", "k%d" % it, str(GREATEST - 1), "x") for it in range(5))
+        sets = b"".join(request("SETRANGE", "k%d" % it, str(LARGE - 1), "x") for it in range(5))
         says = NOTHING_TO_CONTINUE + 2 * request("REPLCONF", "ACK", "1")
         turns, _ = self.plays(3, accepts=[peer(sets), peer(None, says, takes=[])])
         self.assertEqual((counts(turns), turns[-1].links.accepted[1].state), ((8, 0, 0), "open"))
@@ -445,6 +445,41 @@ class Following(Playing):
         turns, _ = self.follows(6, FAILED, FAILED, peer(PONG), moments=[1000, 1050, 1099, 1100, 1199, 1200])
         self.assertEqual([len(it.links.dialled) for it in turns], [1, 1, 1, 2, 2, 3])
         self.assertEqual({it.links.accepted[0].written for it in turns}, {OK})
+
+    def test_what_came_of_it_is_counted(self):
+        """In the turn in which it came: each line that was answered, a copy that is announced and one that is there, a stream that goes on, and what was refused."""
+        copy, length = announces("a", 27, SET), len(announces("a", 27))
+        for said, wanted in (
+            ([GREETED], [Followed(greeted=3)]),
+            ([PONG, OK, OK, copy], [Followed(greeted=1)] * 3 + [Followed(announced=1, copied=1, bytes=27)]),
+            ([GREETED + copy[:length], copy[length:-1], copy[-1:] + SET_W], [Followed(greeted=3, announced=1), Followed(), Followed(copied=1, bytes=27)]),
+            ([GREETED + continues("b"), SET_W], [Followed(greeted=3, continued=1), Followed()]),
+            ([b"-ERR\r\n"], [Followed(refused=1)]),
+            ([PONG + b"-ERR\r\n"], [Followed(greeted=1, refused=1)]),
+            ([GREETED + b"+NO\r\n"], [Followed(greeted=3, refused=1)]),
+            ([GREETED + copy[:length] + b"-ERR\r\n"], [Followed(greeted=3, announced=1, refused=1)]),
+            ([GREETED + copy[:length] + b"$27\r\n" + 27 * b"x"], [Followed(greeted=3, announced=1, refused=1)]),
+            ([GREETED + copy, b"x"], [Followed(greeted=3, announced=1, copied=1, bytes=27), Followed(spoiled=1)]),
+            ([GREETED + copy + GET], [Followed(greeted=3, announced=1, copied=1, bytes=27, spoiled=1)]),
+        ):
+            with self.subTest(said=said):
+                turns, _ = self.follows(1 + len(said), peer(*said))
+                self.assertEqual([followed([it]) for it in turns], [Followed(), *wanted])
+
+    def test_what_did_not_come_of_the_master_is_not_counted(self):
+        """A master that goes, another that is named, a promotion, and what clients ask meanwhile, also where nothing is answered."""
+        first = peer(GREETED[:7], None, None)
+        for asked in (b"\r\n", GET, request("REPLICAOF", "127.0.0.2", "7000"), LEAD, request("QUIT"), b"*-2", request("BGREWRITEAOF")):
+            turns, _ = self.follows(3, first, peer(), client=(None, asked))
+            self.assertEqual(followed(turns), Followed(greeted=1), asked)
+        for end in (ENDS, FAILS):
+            turns, _ = self.follows(4, peer(GREETED + announces("a", 27, SET), SET_W, end), peer())
+            self.assertEqual(followed(turns), Followed(greeted=3, announced=1, copied=1, bytes=27))
+        for asked in (request("REPLICAOF", "127.0.0.2", "7000"), LEAD, request("BGREWRITEAOF"), request("QUIT")):
+            turns, _ = self.follows(3, peer(GREETED + announces("a", 27, SET), None), peer(), client=(None, asked))
+            self.assertEqual(followed(turns), Followed(greeted=3, announced=1, copied=1, bytes=27), asked)
+        turns, _ = self.plays(2, accepts=[peer(SET + request("BGREWRITEAOF")), peer(NOTHING_TO_CONTINUE, b"x\r\n" * 9)])
+        self.assertEqual(followed(turns), Followed())
 
     def test_another_master_is_dialled_at_once(self):
         turns, _ = self.follows(2, FAILED, peer(), client=(request("REPLICAOF", "127.0.0.2", "7000"),), moments=[1000, 1001])

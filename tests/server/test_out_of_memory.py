@@ -1,6 +1,7 @@
 """Each allocation of a run refused in turn."""
 
 import os
+import random
 import subprocess
 import unittest
 
@@ -15,6 +16,7 @@ from tests.support.replies import (
     number, role_of_master,
 )
 from tests.support.requests import EXEC, MULTI, PAIR, SET, SET_A, SET_B, SET_W, SET_X, framed
+from tests.support.server import MIB
 
 ASKED = b"".join(
     [
@@ -113,6 +115,10 @@ class Memory(Refusing):
         pairs = " ".join(f"{score} {name}" for score, name in enumerate(names))
         rows = [("SADD s " + " ".join(names), number(66)), ("ZADD z " + pairs, number(66)), ("SCARD s", number(66)), ("ZRANK z 65", number(65))]
         self.beginnings(asked(line for line, _ in rows), b"".join(reply for _, reply in rows))
+
+    def test_replies_to_a_large_word_are_too(self):
+        value = random.Random(20).randbytes(20 * MIB)
+        self.beginnings(request("SET", "k", value) + request("APPEND", "k", "x") + request("GETRANGE", "k", "-3", "-1"), OK + number(len(value) + 1) + bulk(value[-2:] + b"x"))
 
     def test_replies_to_transactions_are_too(self):
         self.beginnings(asked(line for line, _ in TRANSACTIONS), b"".join(reply for _, reply in TRANSACTIONS))

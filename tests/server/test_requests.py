@@ -157,8 +157,11 @@ class Faults(unittest.TestCase):
             with self.subTest(count=count):
                 self.refuses(count, COUNT)
 
+    def test_a_word_of_the_limit_is_waited_for(self):
+        self.assertEqual(run(b"*2\r\n$3\r\nGET\r\n$536870912\r\n", "pipe").stdout, b"")
+
     def test_a_word_past_the_limit(self):
-        self.refuses(b"*2\r\n$3\r\nGET\r\n$16777217\r\n", BULK_LENGTH)
+        self.refuses(b"*2\r\n$3\r\nGET\r\n$536870913\r\n", BULK_LENGTH)
 
     def test_quotes_that_are_not_balanced(self):
         long = b'"' + 65_535 * b"x"
@@ -179,7 +182,7 @@ class Faults(unittest.TestCase):
             (b"*1\r\n$-", BULK_LENGTH),
             (b"*1\r\n$01", BULK_LENGTH),
             (b"*1\r\n$x", BULK_LENGTH),
-            (b"*1\r\n$16777217", BULK_LENGTH),
+            (b"*1\r\n$536870913", BULK_LENGTH),
             (b"*2\r\n$3\r\nGET\r\n$1\r\nkX", BULK_LENGTH),
             (b"*1\r\n:", b"-ERR Protocol error: expected '$', got ':'\r\n"),
             (b"*1\r\n\x01", b"-ERR Protocol error: expected '$', got '?'\r\n"),

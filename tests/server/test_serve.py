@@ -37,7 +37,7 @@ LEAK = 16 * MIB
 BAD_REQUESTS = [
     (b"*1\r\n$-5\r\n", BULK_LENGTH),
     (b"*1\r\n$x\r\n", BULK_LENGTH),
-    (b"*2\r\n$3\r\nGET\r\n$16777217\r\n", BULK_LENGTH),
+    (b"*2\r\n$3\r\nGET\r\n$536870913\r\n", BULK_LENGTH),
     (b"*x\r\n", COUNT),
     (b"*9223372036854775808\r\n", COUNT),
     (b"*1\r\n:3\r\n", no_dollar(":")),
@@ -66,6 +66,26 @@ BAD_LINES = [
     ["--port", "6379", "--now", "1"],
     ["--nothing", "1"],
 ]
+
+
+# an address behind `--bind`, those of this machine at which the server is then reached and at which it isn't, and whether it warns of that
+OPEN = b"whoever reaches it is asked for no password"
+BOUND = [
+    ("0.0.0.0", ["127.0.0.1", "127.0.0.2"], [], [OPEN]),
+    ("127.0.0.2", ["127.0.0.2"], ["127.0.0.1", "127.0.0.3"], []),
+    ("127.0.0.1", ["127.0.0.1"], ["127.0.0.2"], []),
+]
+
+
+class Bound(server.Server):
+    """A server that listens at an address."""
+
+    def __init__(self, address, **how):
+        self.address = address
+        super().__init__(**how)
+
+    def words(self, *given):
+        return [*super().words(*given), "--bind", self.address]
 
 
 class Starting(Serving):
@@ -97,6 +117,20 @@ class Starting(Serving):
         it = self.serve()
         with socket.socket() as client, self.assertRaises(ConnectionRefusedError):
             client.connect(("127.0.0.2", it.port))
+
+    def test_where_it_listens(self):
+        for address, open_at, closed_at, warned in BOUND:
+            with self.subTest(address=address):
+                it = Bound(address)
+                self.addCleanup(it.stop)
+                self.assertEqual(it.ready, b"minired: ready on %s:%d, 0 keys\n" % (address.encode(), it.port))
+                for host in open_at:
+                    with it.client(host=host) as client:
+                        self.assertEqual(client.asks("PING"), PONG)
+                for host in closed_at:
+                    with socket.socket() as client, self.assertRaises(ConnectionRefusedError):
+                        client.connect((host, it.port))
+                self.assertEqual(it.told(), [*warned, it.ready[len("minired: ") : -1]])
 
     def test_a_port_is_free_again_as_soon_as_its_server_has_ended(self):
         first = self.serve()
@@ -230,7 +264,7 @@ class Notices(Serving):
             self.assertEqual(first.asks("PING"), PONG)
         for link in more:
             link.close()
-        told = it.kill().notices[1:]
+        told = it.told()[1:]
         self.assertEqual(set(told), {b"no more descriptors: links wait to be accepted"})
         self.assertTrue(2 <= len(told) <= 2 + (time.monotonic() - began))
 
@@ -304,7 +338,7 @@ class Requests(Serving):
         for at, client in enumerate(clients):
             wanted = bulk(values[(at + 1) % 3])
             self.assertTrue(client.receive(len(wanted)) == wanted)
-        clients[0].send(b"*3\r\n$3\r\nSET\r\n$1\r\nk\r\n$16777217\r\n")
+        clients[0].send(b"*3\r\n$3\r\nSET\r\n$1\r\nk\r\n$536870913\r\n")
         self.assertEqual(clients[0].rest(), BULK_LENGTH)
         self.goes_on(it)
 
@@ -543,8 +577,7 @@ class Links(Serving):
             link.close()
         self.assertEqual(first.asks("BGREWRITEAOF"), STARTED)
         self.assertEqual(sorted(os.listdir(self.folder)), ["data.aof", "data.aof.lock"])
-        ended = it.kill()
-        self.assertIn(b"no more descriptors: links wait to be accepted", ended.notices)
+        self.assertIn(b"no more descriptors: links wait to be accepted", it.told())
 
     def test_without_descriptors_the_links_that_are_there_go_on(self):
         it = self.serve(limits=lambda: resource.setrlimit(resource.RLIMIT_NOFILE, (60, 60)))

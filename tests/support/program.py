@@ -51,7 +51,7 @@ def built(name):
         folder = os.path.join(ROOT, "crates", name)
         # rt runs what it has built, on the input that stands beside its sources
         with open(os.path.join(folder, "stdin"), "rb") as usual:
-            if subprocess.run(["rt", "run"], cwd=folder, stdin=usual, capture_output=True).returncode:
+            if subprocess.run([sys.executable, os.path.join(ROOT, "tools", "rt.py"), "run"], cwd=folder, stdin=usual, capture_output=True).returncode:
                 sys.exit(f"minired's tests: the program {name} cannot be built")
         os.utime(program)
     return program

@@ -71,8 +71,9 @@ class Look:
 class Node(server.Server):
     """A server that may begin as a replica of the node at a port, and a client of it."""
 
-    def __init__(self, follows=None, backlog=None, **how):
-        self.given, self.link = {"--replicaof": follows and f"{HOST}:{follows}", "--backlog": backlog}, None
+    def __init__(self, follows=None, backlog=None, timeout=None, **how):
+        self.given = {"--replicaof": follows and f"{HOST}:{follows}", "--backlog": backlog, "--repl-timeout": timeout}
+        self.link = None
         super().__init__(**how)
 
     def words(self, aof, sync, turns):
@@ -163,11 +164,12 @@ class Carried:
             if not piece or self.cut_now.is_set():
                 return False
             is_master = end is self.far
+            # asked once: it may be changed meanwhile, and behind bytes that are left out there must be none
             got, most = (self.heard, self.most_heard) if is_master else (self.told, self.most_told)
-            piece = piece if most is None else piece[: max(0, most - len(got))]
-            (self.near if is_master else self.far).sendall(piece)
-            got += piece
-            if self.is_full():
+            left = None if most is None else max(0, most - len(got))
+            (self.near if is_master else self.far).sendall(piece[:left])
+            got += piece[:left]
+            if left is not None and len(piece) >= left:
                 return False
         return True
 
@@ -213,7 +215,9 @@ class Proxy:
                 near, _ = self.listener.accept()
             except OSError:
                 return
-            link = Carried(near, *(self.cuts.pop(0) if self.cuts else (None, None, False)))
+            # another thread may put other cuts in the place of these
+            cuts = self.cuts
+            link = Carried(near, *(cuts.pop(0) if cuts else (None, None, False)))
             self.links.append(link)
             threading.Thread(target=self.carry, args=(link, len(self.links)), daemon=True).start()
 
@@ -225,6 +229,13 @@ class Proxy:
     def heard(self):
         """What masters said, link by link."""
         return [bytes(it.heard) for it in self.links]
+
+    def cut_no_more(self):
+        """Links that are there aren't cut any more, nor are those that come, and none waits."""
+        self.cuts = []
+        for it in list(self.links):
+            it.most_heard = it.most_told = None
+        self.lets_go.set()
 
     def cut(self):
         """Cuts all links that there are."""

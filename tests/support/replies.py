@@ -123,3 +123,15 @@ class Answering(unittest.TestCase):
             self.assertEqual(rest[: len(reply)], reply, line)
             rest = rest[len(reply):]
         self.assertEqual(rest, b"")
+
+
+class Playing(unittest.TestCase):
+    def plays(self, calls, *words):
+        """Each of many calls, given by its words, so that the first wrong reply is told."""
+        ran = run(b"".join(request(*call) for call, _ in calls), "pipe", *words)
+        self.assertEqual((ran.returncode, ran.stderr), (0, b""))
+        at = 0
+        for call, wanted in calls:
+            self.assertEqual(ran.stdout[at : at + len(wanted)], wanted, call)
+            at += len(wanted)
+        self.assertEqual(len(ran.stdout), at)

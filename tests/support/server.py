@@ -115,6 +115,13 @@ class Server:
         """The program ends wherever it is."""
         return self.signalled(signal.SIGKILL)
 
+    def told(self):
+        """The notices up to now, and it ends. A turn writes them behind its replies, so that they are there once one link is answered in two more turns."""
+        with self.client() as it:
+            for _ in range(2):
+                it.asks("PING")
+        return self.kill().notices
+
     def stop(self):
         """Ends it, where it hasn't ended, and lets go of its pipes."""
         if self.process.poll() is None:
@@ -163,7 +170,7 @@ class RedisServer(Server):
 
     def words(self, aof, sync, turns):
         assert turns is None
-        words = ["redis-server", "--port", self.port, "--bind", HOST, "--save", "", "--proto-max-bulk-len", 16 << 20, "--maxclients", 4000]
+        words = ["redis-server", "--port", self.port, "--bind", HOST, "--save", "", "--maxclients", 4000]
         words += ["--client-output-buffer-limit", "normal", UNREAD, 0, 0]
         words += ["--dir", os.path.dirname(os.path.abspath(aof)) if aof else "/", "--appendonly", "yes" if aof else "no"]
         if aof:
@@ -187,13 +194,13 @@ def has_redis():
 class Client:
     """A client's end of a link, over which bytes go as they are."""
 
-    def __init__(self, port, room=None):
+    def __init__(self, port, room=None, host=HOST):
         self.socket = socket.socket()
         self.socket.settimeout(LATE)
         if room:
             # how much the system takes in for this client before it reads
             self.socket.setsockopt(socket.SOL_SOCKET, socket.SO_RCVBUF, room)
-        self.socket.connect((HOST, port))
+        self.socket.connect((host, port))
         self.socket.setsockopt(socket.IPPROTO_TCP, socket.TCP_NODELAY, 1)
         self.name = self.socket.getsockname()[1]
         self.server = port

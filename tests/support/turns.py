@@ -139,6 +139,24 @@ def counts(turns):
     return tuple(sum(int(it[at]) for it in told) for at in (2, 3, 4))
 
 
+class Followed(NamedTuple):
+    """What came of following a master: lines of the handshake that were answered, whole copies that were announced, those that are there with how many bytes
+    rebuild them, how often the stream goes on, and how often the master was left for what it sent, before its stream and in it."""
+
+    greeted: int = 0
+    announced: int = 0
+    copied: int = 0
+    bytes: int = 0
+    continued: int = 0
+    refused: int = 0
+    spoiled: int = 0
+
+
+def followed(turns):
+    """What came of following a master in these turns."""
+    return Followed(*(sum(int(it) for it in column) for column in zip(*(it.told.split(" ")[5:] for it in turns))))
+
+
 class Playing(unittest.TestCase):
     """Plays turns, each on a run of the program of its own."""
 

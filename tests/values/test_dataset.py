@@ -2,7 +2,7 @@
 
 import unittest
 
-from tests.support.rehearsal import Rehearsing, asked, effect
+from tests.support.rehearsal import Rehearsing, asked, effect, holding
 from tests.support.replies import array, bulk, number
 
 # the lengths that the command reference gives
@@ -72,11 +72,6 @@ class Effects(Rehearsing):
         for text in ("abc", "01", "9223372036854775808"):
             self.refuses(["SET k " + text], ["INCRBY k 1"])
 
-    def test_a_word_over_the_limit_is_refused(self):
-        long = "x" * 16_777_216
-        self.leaves([("SET k " + long, "STRLEN k", number(16_777_216))])
-        self.refuses(["SETRANGE k 16777215 x"], ["APPEND k yz"])
-
     def test_texts_are_set_and_grow(self):
         self.leaves([
             ("MSET a 1 k 2 a 3", "GET a", bulk("3")),
@@ -92,7 +87,7 @@ class Effects(Rehearsing):
             ("SETRANGE k 0 xy", "GET k", bulk("xyab")),
             ("SETRANGE k 3 cd", "GET k", bulk("xyacd")),
             ("SETRANGE k 9 ", "GET k", bulk("xyacd")),
-            ("SETRANGE n 16777217 ", "EXISTS n", number(0)),
+            ("SETRANGE n 536870913 ", "EXISTS n", number(0)),
         ])
 
     def test_numbers_are_increased(self):
@@ -148,13 +143,15 @@ class Effects(Rehearsing):
         self.refuses(["SET k -9223372036854775808"], ["INCRBY k -1"])
 
     def test_texts_past_the_limit_are_refused(self):
-        lines = [
-            "APPEND k y",
-            "SETRANGE k 16777216 y",
-            "SETRANGE n 16777215 yz",
-            "SETRANGE n 9223372036854775807 y",
-        ]
-        self.refuses(["SETRANGE k 16777215 x"], lines)
+        lines = ["APPEND k y", "APPEND k yz", "SETRANGE k 536870912 y", "SETRANGE n 536870911 yz", "SETRANGE n 9223372036854775807 y"]
+        for way in ("lend", "give"):
+            self.rehearses([
+                *holding("SETRANGE k 536870911 x"),
+                *((way + " " + effect(line).hex(), "refused: the effect does not apply") for line in lines),
+                *((asked(question), "replied " + reply.hex()) for question, reply in (
+                    ("STRLEN k", number(536_870_912)), ("GETRANGE k -2 -1", bulk("\0x")), ("DBSIZE", number(1)),
+                )),
+            ])
 
     def test_hashes(self):
         self.leaves([

@@ -86,10 +86,12 @@ class Datasets(Playing):
             self.plays("group", [(call + spelled(SINGLE), "applied"), (call + spelled(TORN), "torn")])
 
 
-class Files(Playing):
+class OfFiles(Playing):
     def loads(self, file, used, commands):
         self.plays("group", [("load " + spelled(file), "loads %d commands %s" % (used, spelled(commands)))])
 
+
+class Files(OfFiles):
     def test_a_whole_group_is_loaded(self):
         self.loads(SINGLE + PAIR, 110, request("SET", "a", "1") + request("SET", "b", "2") + SINGLE)
 
@@ -104,6 +106,49 @@ class Files(Playing):
     def test_nothing_is_loaded_behind_what_is_bad(self):
         self.loads(SINGLE + framed(("SET", "a", "1")) + SINGLE, 27, SINGLE)
         self.loads(SINGLE + request("INCRBY", "k", "1") + SINGLE, 27, SINGLE)
+
+
+class Notes(OfFiles):
+    """A note is `#`, at most 65,536 bytes that aren't a line feed, and one. It stands between groups of a file, and does nothing."""
+
+    BOTH = request("SET", "a", "1") + request("SET", "b", "2") + SINGLE
+
+    def test_it_counts_in_what_is_loaded_and_in_nothing_else(self):
+        self.loads(b"#TS:5\r\n" + SINGLE + b"#TS:6", 34, SINGLE)
+
+    def test_one_of_too_many_bytes_ends_what_is_loaded(self):
+        self.loads(b"#" + 65_537 * b"x" + b"\n", 0, b"")
+        self.loads(SINGLE + b"#" + 65_537 * b"x" + b"\n" + PAIR, 27, SINGLE)
+        self.loads(b"#" + 65_536 * b"x" + b"\n" + SINGLE, 65_565, SINGLE)
+
+    def test_in_front_between_and_behind(self):
+        for note in (b"#\n", b"#\r\n", b"##\n", b"#TS:1700000000\r\n", b"#*1\r\n", bytes([35, 0, 255, 13, 10])):
+            count = len(note)
+            self.loads(note, count, b"")
+            self.loads(note + SINGLE + PAIR, 110 + count, self.BOTH)
+            self.loads(SINGLE + note + PAIR, 110 + count, self.BOTH)
+            self.loads(SINGLE + 3 * note + PAIR + note, 110 + 4 * count, self.BOTH)
+
+    def test_one_without_its_line_feed_is_not_there(self):
+        for begun in (b"#", b"#TS:6", b"#TS:6\r", b"#" + 65_536 * b"x"):
+            self.loads(SINGLE + begun, 27, SINGLE)
+
+    def test_within_a_frame_nothing_of_the_group_is_kept(self):
+        note, effects = b"#TS:5\r\n", [request("SET", "a", "1"), request("SET", "b", "2")]
+        for at in range(3):
+            parts = [MULTI, *effects, EXEC]
+            parts.insert(at + 1, note)
+            self.loads(SINGLE + b"".join(parts) + SINGLE, 27, SINGLE)
+
+    def test_within_an_effect_there_is_none(self):
+        self.loads(SINGLE + SINGLE[:13] + b"#\n" + SINGLE[13:], 27, SINGLE)
+
+    def test_a_group_that_can_be_done_in_part_behind_one(self):
+        self.loads(SINGLE + b"#\n" + TORN, 29, SINGLE)
+        self.loads(b"#\n" + SINGLE + b"#\n" + request("INCRBY", "k", "1"), 31, SINGLE)
+
+    def test_none_is_read_of_a_stream(self):
+        self.plays("group", [("read " + spelled(note + SINGLE), "bad") for note in (b"#\n", b"#TS:5\r\n", b"#")])
 
 
 if __name__ == "__main__":

@@ -7,7 +7,7 @@ from tests.support.program import LATE, built, request
 from tests.support.values import Playing, spelled
 
 # the greatest word has so many bytes
-LONGEST = 16_777_216
+LONGEST = 536_870_912
 # the greatest score: a double holds each whole number up to it
 MOST_SCORE = 2**53
 
@@ -181,7 +181,7 @@ class Standings(Playing):
 class Lineages(Playing):
     """A stream that gets another id keeps the one before up to its last byte; a snapshot ends both."""
 
-    A, B = "a" * 40, "b" * 40
+    A, B, C = "a" * 40, "b" * 40, "c" * 40
 
     def test_who_stood_at_the_promotion_goes_on(self):
         """A replica that is promoted at 27 writes on under another id."""
@@ -227,6 +227,21 @@ class Lineages(Playing):
         ])
 
 
+    def test_who_was_promoted_and_obeys_again(self):
+        """A master writes to 54 while a replica that stood at 27 is promoted and writes as far. That one obeys the master again: it gets a whole copy, and
+        forgets its id. Promoted once more it has the master go on, which stands where it does."""
+        grown = ("grow " + spelled(request("SET", "k", "x")), "grown")
+        begun = [("new %s 1048576 27" % self.A, "begun")]
+        master = [*begun, grown, ("shows", "shows %s 54 28" % self.A), ("asks %s 55" % self.B, "full"), ("asks %s 28" % self.B, "full")]
+        replica = [*begun, ("promote " + self.B, "promoted"), grown, ("shows", "shows %s 54 28 %s 28" % (self.B, self.A))]
+        replica += [("adopt %s 54" % self.A, "adopted"), ("shows", "shows %s 54 55" % self.A), ("promote " + self.C, "promoted")]
+        # the backlog begins anew with the copy
+        promoted = [("shows", "shows %s 54 55 %s 55" % (self.C, self.A)), ("asks %s 55" % self.A, "continue 55"), ("tail 55", "tail -")]
+        promoted += [("asks %s 56" % self.A, "full"), ("asks %s 54" % self.A, "full"), ("asks %s 55" % self.B, "full"), ("asks %s 55" % self.C, "continue 55")]
+        master += [("continue " + self.C, "continued"), ("shows", "shows %s 54 28 %s 55" % (self.C, self.A))]
+        self.plays("lineage", [*replica, *promoted], master)
+
+
 class Requests(Playing):
     def plays_on(self, step, rows):
         self.plays("request", [(step + " " + spelled(data), answer) for data, answer in rows])
@@ -251,6 +266,14 @@ class Requests(Playing):
             ("next " + spelled("*1\r\n$18446744073709551587"), "word too big"),
             ("next " + spelled("*1\r\n$18446744073709551616"), "word too big"),
         ])
+
+    def test_a_word_may_have_512_mib(self):
+        begun = "*2\r\n$3\r\nGET\r\n$%d\r\n"
+        rows = [(begun % LONGEST, "more"), (begun % (LONGEST + 1), "word too big"), (begun[:-2] % (LONGEST + 1), "word too big")]
+        for step in ("next", "command"):
+            self.plays_on(step, rows)
+        # beside the most words that a request may have
+        self.plays_on("next", [("*1048576\r\n$%d\r\n" % LONGEST, "more"), ("*1048577", "too many words")])
 
     def test_limits_have_room_for_empty_words(self):
         # a request of 4 empty words has 28 bytes
@@ -359,7 +382,7 @@ class Datasets(Playing):
 
     def test_a_word_over_the_limit_is_refused(self):
         refused = "too long spelled refused refused"
-        long = spelled("\0" * (LONGEST + 1))
+        long = "00*%d" % (LONGEST + 1)
         self.plays("dataset", [("set %s %s" % (spelled("k"), long), refused), ("del " + long, refused), ("nothing", "applied"), ("keys", "keys 0 empty")])
 
 

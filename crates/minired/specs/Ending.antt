@@ -4,9 +4,10 @@ use Rattle.mr_loop.specs.declared.fault.LoopFault.TheVariants as loop
 use Rattle.mr_options.specs.declared.fault.UsageFault.TheVariants as usage
 use Rattle.mr_console.specs.declared.fault.TrioFault.TheVariants as trio
 use Rattle.minired.specs.declared.failure.Failure.{Failure}
-use Rattle.minired.specs.declared.failure.Failure.TheVariants.{Usage, Pipe, Loop, Trio, Listen, File, Random, Memory}
+use Rattle.minired.specs.declared.failure.Failure.TheVariants.{Usage, Pipe, Loop, Stream, Trio, Listen, File, Random, Memory}
 
--- 1 where the words are refused, 2 where sockets fail or a line of a trio is late, and 3 where a stream or the file fails or memory runs out
+-- 1 where the words are refused, 2 where sockets fail or a line of a trio is late, and 3 where a stream or the file fails, memory runs out, or a group of the
+-- master's is torn
 abbrev pub status_of : Failure → ℕ
 status_of (Usage (usage.Line text)) = 1
 status_of (Usage usage.BadValue) = 1
@@ -18,6 +19,7 @@ status_of (Pipe fault) = 3
 status_of (Loop loop.Listener) = 2
 status_of (Loop loop.File) = 3
 status_of (Loop loop.Stopped) = 3
+status_of Stream = 3
 status_of (Trio trio.Stream) = 3
 status_of (Trio trio.Stopped) = 3
 status_of (Trio trio.Socket) = 2
@@ -32,6 +34,7 @@ abbrev pub is_told : Failure → Bool
 is_told (Usage fault) = true
 is_told (Pipe fault) = true
 is_told (Loop fault) = true
+is_told Stream = true
 is_told (Trio trio.Stream) = true
 is_told (Trio trio.Stopped) = true
 is_told (Trio trio.Socket) = true

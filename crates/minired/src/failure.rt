@@ -30,6 +30,9 @@ pub enum Failure {
     Pipe(PipeFault),
     #[error("{0}")]
     Loop(LoopFault),
+    /// The node stopped in its master's stream.
+    #[error("out of memory, or a group in the master's stream that does not apply as a whole")]
+    Stream,
     #[error("{0}")]
     Trio(TrioFault),
     /// This port can't be listened on.
@@ -62,6 +65,7 @@ impl Failure {
             Failure::Trio(TrioFault::Socket) | Failure::Trio(TrioFault::Late) => 2,
             Failure::Loop(LoopFault::File) | Failure::Loop(LoopFault::Stopped) => 3,
             Failure::Usage(UsageFault::Memory) | Failure::Pipe(_) | Failure::Memory => 3,
+            Failure::Stream => 3,
             Failure::Trio(TrioFault::Stream) | Failure::Trio(TrioFault::Stopped) => 3,
             Failure::File(_, _) | Failure::Random(_) => 3,
         }

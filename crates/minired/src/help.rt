@@ -10,6 +10,7 @@ minired: an in-memory data structure server in the manner of Redis
 
 usage: minired serve --port P [--aof PATH] [--sync always|no] [--turns N]
                      [--backlog N] [--replicaof HOST:PORT] [--bind A]
+                     [--repl-timeout N]
        minired pipe [--aof PATH] [--id H] [--now N] [--word N]
        minired trio
        minired world [--backlog N]
@@ -24,6 +25,8 @@ minired serve  answers clients over RESP2, until one says SHUTDOWN
   --replicaof HOST:PORT
                the node that it begins as a replica of; usually none: it begins as a master
   --bind A     the IPv4 address that it listens on; who reaches it is asked for no password; usually 127.0.0.1
+  --repl-timeout N
+               a master, and a replica, is given up once it is silent for so many seconds, from 1 to 86400; usually 60
 
 minired pipe   answers one client on standard input and output, until the input ends; so does minired without a word
   --aof PATH   the append-only file that keeps the dataset; usually none: it is in memory alone

@@ -5,13 +5,17 @@ ghost use Rattle.mr_data.specs.Given.{IsMoment};
 ghost use Rattle.mr_player.specs.Asking.{IsBacklog};
 
 mod failure;
+mod following;
 mod help;
 mod kept;
 mod kept_file;
+mod master_link;
 mod notice;
 mod obeying;
+mod peer;
 mod roles;
 mod served;
+mod silence;
 mod told_wire;
 mod turns;
 

@@ -73,7 +73,7 @@ fn tell_apart(rt: &HostRuntime, node: &Node) {
 }
 
 /// The offset that a node shows; 0 once it is stopped.
-fn offset_of(node: &Node) -> u64 {
+pub fn offset_of(node: &Node) -> u64 {
     match node.shows() {
         Some((_id, offset)) => offset,
         None => 0,
@@ -82,7 +82,7 @@ fn offset_of(node: &Node) -> u64 {
 
 /// A host and a port, as they are spelled in options.
 #[derive(Drop)]
-struct Shown<'a>(&'a Address);
+pub struct Shown<'a>(pub &'a Address);
 
 impl fmt::Display for Shown<'_> {
     fn fmt<W: fmt::Write>(&self, f: &mut fmt::Formatter<W>) -> fmt::Result {

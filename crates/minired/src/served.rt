@@ -11,7 +11,7 @@ use mr_aof::Log;
 use mr_data::Dataset;
 use mr_file::LogFile;
 use mr_loop::{Links, LoopFault};
-use mr_node::{Config, Node};
+use mr_node::{Config, Node, Role};
 use mr_options::ServeOptions;
 use mr_source::{Source, SystemSource};
 use mr_wire::SocketWire;
@@ -74,10 +74,28 @@ fn serve_node<F: LogFile>(
         &mut source,
         options.turns,
     );
-    tell_end(rt, links.halted(), ended);
     match ended {
-        Ok(()) => Ok(()),
-        Err(fault) => Err(Failure::Loop(fault)),
+        Ok(()) => {
+            tell_end(rt, links.halted());
+            Ok(())
+        }
+        Err(fault) => {
+            let failure = failure_of(&node, fault);
+            tell(rt, &format_args!("ends: {failure}"));
+            Err(failure)
+        }
+    }
+}
+
+/// Why the server fails. A node that stops in its master's stream may have lacked memory within a group, or a later effect of it
+/// doesn't apply: both leave it alike.
+fn failure_of(node: &Node, fault: LoopFault) -> Failure {
+    match fault {
+        LoopFault::Stopped => match node.role() {
+            Role::Connected => Failure::Stream,
+            Role::Master | Role::Connect | Role::Sync => Failure::Loop(fault),
+        },
+        LoopFault::Listener | LoopFault::File => Failure::Loop(fault),
     }
 }
 
@@ -102,12 +120,12 @@ fn node_of<S: Source>(
     Ok(node)
 }
 
-/// Tells why the server ends.
-fn tell_end(rt: &HostRuntime, halted: bool, ended: Result<(), LoopFault>) {
-    match ended {
-        Ok(()) if halted => tell(rt, &"ends: a client said SHUTDOWN"),
-        Ok(()) => tell(rt, &"ends: it made all its turns"),
-        Err(fault) => tell(rt, &format_args!("ends: {fault}")),
+/// Tells why the server ends where nothing failed.
+fn tell_end(rt: &HostRuntime, halted: bool) {
+    if halted {
+        tell(rt, &"ends: a client said SHUTDOWN");
+    } else {
+        tell(rt, &"ends: it made all its turns");
     }
 }
 
@@ -132,7 +150,7 @@ fn listening(rt: &HostRuntime, options: &ServeOptions<'_>) -> Result<ToldWire, F
     let (of_sockets, of_wire) = (another(rt)?, another(rt)?);
     let address = SocketAddr::from((options.bind, options.port));
     match SocketWire::listen(of_sockets, rt.alloc(), address) {
-        Ok(wire) => Ok(ToldWire::new(of_wire, wire)),
+        Ok(wire) => Ok(ToldWire::new(of_wire, wire, options.timeout)),
         Err(error) => Err(Failure::Listen(options.port, error)),
     }
 }

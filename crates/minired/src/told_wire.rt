@@ -1,7 +1,9 @@
-//! The wire of a server, which tells where it has no descriptor left.
-ghost use Rattle.std.specs.Prelude.{false};
+//! The wire of a server, which tells where it has no descriptor left, knows of the link to the master, and hangs up on silent peers.
+ghost use Rattle.std.specs.Prelude.{◌≡◌, false};
 
-use crate::notice::Seldom;
+use crate::master_link::MasterLink;
+use crate::notice::{Seldom, tell};
+use crate::silence::Silence;
 use mr_links::LinkId;
 use mr_wire::{Failed, Moved, SocketWire, Wire};
 
@@ -9,22 +11,68 @@ use mr_wire::{Failed, Moved, SocketWire, Wire};
 const LACK: &str = "no more descriptors: links wait to be accepted";
 
 /// A wire over the system's sockets. Where it has no descriptor for a link that a peer opened, it says so on standard error, once a
-/// second at most.
+/// second at most. It hangs up on a master and on replicas that have been silent for too long, and says how many replicas these were.
+/// What is behind it then finds the end of the link, as where the peer had closed it.
 #[derive(Drop)]
 pub struct ToldWire {
     rt: HostRuntime,
     wire: SocketWire,
     lack: Seldom,
+    master: MasterLink,
+    silence: Silence,
+}
+
+/// Of a wire: what it saw of its node's link to a master.
+pub trait SeesMaster {
+    /// The link that was dialled last, and how often such links came and went.
+    fn master(&self) -> &MasterLink;
+}
+
+impl SeesMaster for ToldWire {
+    fn master(&self) -> &MasterLink {
+        &self.master
+    }
 }
 
 impl ToldWire {
-    /// The wire over these sockets.
-    pub fn new(rt: HostRuntime, wire: SocketWire) -> ToldWire {
+    /// The wire over these sockets. A peer of replication may be silent for so many seconds.
+    pub fn new(rt: HostRuntime, wire: SocketWire, timeout: u64) -> ToldWire {
+        let master = MasterLink::new(rt.alloc(), timeout);
+        let silence = Silence::new(rt.alloc(), timeout);
         ToldWire {
             rt,
             wire,
             lack: Seldom::new(),
+            master,
+            silence,
         }
+    }
+}
+
+/// Hangs up on each peer that has been silent for too long. How many of them are replicas.
+fn hang_up_silent(wire: &mut SocketWire, silence: &mut Silence, master: &mut MasterLink) -> u64
+    ensures links { wire.new.links ≡ wire.old.links }
+    ensures failed { wire.new.failed ≡ wire.old.failed }
+{
+    let mut replicas = 0u64;
+    for index in 0..silence.len() {
+        if let Some(link) = silence.take_silent(index) {
+            wire.hang_up(link);
+            if !master.hang_up(link) {
+                replicas = replicas.saturating_add(1);
+            }
+        }
+    }
+    replicas
+}
+
+/// Says how many replicas were hung up, if any was.
+fn tell_hung_up(rt: &HostRuntime, replicas: u64, timeout: u64) {
+    if replicas > 0 {
+        let text = format_args!(
+            "replicas hung up that were silent or read nothing for {timeout} s: {replicas}"
+        );
+        tell(rt, &text);
     }
 }
 
@@ -38,18 +86,27 @@ impl Wire for ToldWire {
     ghost waited = { λ _. 0 };
 
     fn wait(&mut self, millis: u64) -> Result<(), Failed> {
+        self.silence.wait(&self.rt);
+        if self.silence.is_due() {
+            let replicas = hang_up_silent(&mut self.wire, &mut self.silence, &mut self.master);
+            tell_hung_up(&self.rt, replicas, self.master.timeout());
+        }
         self.wire.wait(millis)
     }
 
     fn accept(&mut self) -> Result<Option<LinkId>, Failed> {
         let accepted = self.wire.accept();
+        self.silence.accepted(accepted);
         let due = self.wire.lacks_descriptors();
         let _ = self.lack.tell(&self.rt, due, &LACK);
         accepted
     }
 
     fn connect(&mut self, host: &[u8], port: u16) -> Result<LinkId, Failed> {
-        self.wire.connect(host, port)
+        let connected = self.wire.connect(host, port);
+        self.master.connected(connected);
+        self.silence.connected(connected);
+        connected
     }
 
     fn ready(&mut self) -> Option<LinkId> {
@@ -57,14 +114,22 @@ impl Wire for ToldWire {
     }
 
     fn read(&mut self, link: LinkId, into: &mut [u8]) -> Moved {
-        self.wire.read(link, into)
+        let moved = self.wire.read(link, into);
+        self.master.read(link, moved, into);
+        self.silence.read(link, moved);
+        moved
     }
 
     fn write(&mut self, link: LinkId, bytes: &[u8]) -> Moved {
-        self.wire.write(link, bytes)
+        let moved = self.wire.write(link, bytes);
+        self.master.written(link, moved);
+        self.silence.written(link, bytes, moved);
+        moved
     }
 
     fn close(&mut self, link: LinkId) {
+        self.master.closed(link);
+        self.silence.closed(link);
         self.wire.close(link);
     }
 }

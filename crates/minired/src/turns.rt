@@ -4,8 +4,10 @@ ghost use Rattle.mr_loop.specs.Stage.{stage};
 ghost use Rattle.mr_loop.specs.Outcomes.{Serves};
 ghost use Rattle.mr_loop.specs.Quiet.{AllWait};
 
+use crate::following::FollowNotice;
 use crate::notice::{Seldom, tell};
 use crate::roles::RoleNotice;
+use crate::told_wire::SeesMaster;
 use mr_aof::Log;
 use mr_file::LogFile;
 use mr_loop::{Links, LoopFault, turn};
@@ -47,7 +49,7 @@ impl DeafClients {
 }
 
 /// So many turns, or fewer where one meets a fault, or in one a client asks that the program end. That is the last.
-pub fn serve_turns<W: Wire, F: LogFile, S: Source>(
+pub fn serve_turns<W: Wire + SeesMaster, F: LogFile, S: Source>(
     rt: &HostRuntime,
     node: &mut Node,
     links: &mut Links,
@@ -59,7 +61,7 @@ pub fn serve_turns<W: Wire, F: LogFile, S: Source>(
     requires filed { links.old.batch ≡ [] }
     requires runs { links.old.halted ≡ false }
     requires up { node.old.core.up ≡ true }
-    ensures went { Serves W.tells log.old.mode turns result (stage node.old links.old (W.links wire.old) (W.failures wire.old) (F.told log.old.file) (F.synced log.old.file)) (stage node.new links.new (W.links wire.new) (W.failures wire.new) (F.told log.new.file) (F.synced log.new.file)) }
+    ensures went { Serves W.tells log.old.mode turns result (S.drawn source.old) (S.drawn source.new) (stage node.old links.old (W.links wire.old) (W.failures wire.old) (F.told log.old.file) (F.synced log.old.file)) (stage node.new links.new (W.links wire.new) (W.failures wire.new) (F.told log.new.file) (F.synced log.new.file)) }
     ensures device { IsErrOf result LoopFault.File → log.new.broken ≡ true }
     ensures written { OnOk result (links.new.batch ≡ []) }
     ensures quiet { AllWait node.old → OnOk result (AllWait node.new) }
@@ -68,10 +70,12 @@ pub fn serve_turns<W: Wire, F: LogFile, S: Source>(
         untold: 0,
         notice: Seldom::new(),
     };
+    let mut following = FollowNotice::new();
     let mut roles = RoleNotice::new();
     for _ in 0..turns {
         let told = turn(node, links, wire, log, source)?;
         deaf.close(rt, told.deaf);
+        following.look(rt, node, told.followed, wire.master());
         roles.look(rt, node);
         if told.halted {
             deaf.end(rt);

@@ -9,11 +9,12 @@ use Rattle.mr_groups.specs.Groups.{group_text}
 use Rattle.mr_groups.specs.Reading.{BeginsWithGroup}
 use Rattle.mr_groups.specs.Folding.{MakesByGroups, LoadsGroups, IsStuckByGroups}
 use Rattle.mr_groups.specs.Fronts.{EndsAt}
-use Rattle.mr_groups.specs.Replaying.{IsReadByGroups, IsReadUpTo, IsRest}
+use Rattle.mr_groups.specs.Replaying.{BeginsTorn, IsReadByGroups, IsReadUpTo, IsRest}
 use Rattle.mr_groups.specs.declared.front.Rest.{Rest}
 use Rattle.mr_groups.specs.declared.front.Rest.TheVariants as rest
-use Rattle.mr_groups.proofs.Runs.{leads_nowhere, read_is_longest, some_text, stuck_where_none}
-use Rattle.mr_groups.proofs.Going.{loads_once}
+use Rattle.mr_groups.proofs.Notes.{nothing_open}
+use Rattle.mr_groups.proofs.Runs.{makes_nothing, read_is_longest, some_text, stuck_where_open}
+use Rattle.mr_groups.proofs.Going.{loads_once, stuck_where_bad, stuck_where_torn}
 use Rattle.mr_aof.specs.ReadThrough.{IsWithin, IsBefore, IsKnownEnd, IsStop, IsReadThrough, IsMade}
 
 -- so many bytes were read
@@ -25,10 +26,10 @@ pub record IsUnderWay (file : Option (List ℕ)) (at : ℕ) (m : Dataset) (unrea
 -- ---- the beginning
 
 none_stuck : (m : Dataset) → IsStuckByGroups m []
-none_stuck m es n more good applied q = absurd (omega (arith, ap length q, length-append (group_text es) more, some_text es good))
+none_stuck m = stuck_where_open m [] (inr nothing_open)
 
 nothing_read : (m : Dataset) (unread : List ℕ) → m ≡ empty → unread ≡ [] → IsReadByGroups [] m unread
-nothing_read m unread p q = record { front = []; is = sym q; made = subst (λ n. MakesByGroups [] n) (sym p) (leads_nowhere empty) }
+nothing_read m unread p q = record { front = []; is = sym q; made = subst (λ n. MakesByGroups [] n) (sym p) makes_nothing }
 
 read_of_none : (file : Option (List ℕ)) (m : Dataset) (unread : List ℕ) → m ≡ empty → unread ≡ [] → IfSome file (λ xs. (0 ≤ length xs) × IsReadByGroups (take 0 xs) m unread)
 read_of_none None m unread p q = tt
@@ -84,10 +85,9 @@ goes_on file then at n k before after fed unread unread' m m' r old e read same 
 
 pub under_way : (file : Option (List ℕ)) (at : ℕ) (m : Dataset) (unread : List ℕ) (r : Rest) → r ≡ rest.Open → HasRest file at m unread r → IsUnderWay file at m unread
 under_way file at m unread r is h =
-    let open_end : IsRest m unread rest.Open = subst (IsRest m unread) is h.left in
     record {
       read = subst (λ x. IfSome file (λ xs. (at ≤ length xs) × IsReadUpTo (take at xs) m unread x)) is h.read;
-      stuck = stuck_where_none m unread open_end.none;
+      stuck = stuck_where_open m unread (subst (IsRest m unread) is h.left);
       counted = h.counted;
     }
 
@@ -120,7 +120,7 @@ ends file then end at n k buffer unread m old e some fewer all none room =
 -- .. or where no group can follow
 stop_of : (xs : List ℕ) (end : Option ℕ) (at : ℕ) (m : Dataset) (unread : List ℕ) (r : Rest) → (r ≡ rest.Open → ⊥) → IsRest m unread r → IsStop xs end at m unread r
 stop_of xs end at m unread rest.Open closed left = absurd (closed refl)
-stop_of xs end at m unread rest.Bad closed left = left
+stop_of xs end at m unread rest.Bad closed left = stuck_where_bad unread m left
 stop_of xs end at m unread rest.Torn closed left = tt
 
 pub stops : (file : Option (List ℕ)) (end : Option ℕ) (at : ℕ) (m : Dataset) (unread : List ℕ) (r : Rest) → (r ≡ rest.Open → ⊥) → HasRest file at m unread r → IfSome file (λ xs. IsReadThrough xs end at m unread r)
@@ -129,7 +129,8 @@ stops (Some xs) end at m unread r closed h = record { within = h.read.0; read = 
 
 pub torn_some : (m : Dataset) (unread : List ℕ) (r : Rest) → IsRest m unread r → r ≡ rest.Torn → 0 < length unread
 torn_some m unread r left is =
-    let b : BeginsWithGroup unread = subst (IsRest m unread) is left in
+    let torn : (made : Dataset) × BeginsTorn made unread m = subst (IsRest m unread) is left in
+    let b : BeginsWithGroup unread = torn.1.front in
     omega (arith, ap length b.is, length-append (group_text b.group) b.behind, some_text b.group b.good)
 
 -- ---- what is loaded
@@ -221,7 +222,7 @@ ends_of xs end at m unread h =
       within = omega (arith, ap length whole, length-append front behind);
       made = h.read.0;
       led = subst (λ (t : List ℕ). MakesByGroups t h.read.0) (sym (ap (take (length front)) whole ∙ take_at front behind (length front) refl)) read.made;
-      stuck = subst (IsStuckByGroups h.read.0) (sym (ap (drop (length front)) whole ∙ drop_at front behind (length front) refl)) (h.read.2 (drop at xs));
+      stuck = subst (IsStuckByGroups h.read.0) (sym (ap (drop (length front)) whole ∙ drop_at front behind (length front) refl)) (stuck_where_torn unread h.read.0 m h.read.2 (drop at xs));
     })
 
 pub is_torn : (file : Option (List ℕ)) (end : Option ℕ) (at : ℕ) (m : Dataset) (unread shown : List ℕ) (r : Rest) → r ≡ rest.Torn → IfSome file (λ xs. IsReadThrough xs end at m unread r) → shown ≡ unread → IfSome file (λ xs. EndsAt xs (at - length shown))

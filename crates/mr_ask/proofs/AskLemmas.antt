@@ -2,9 +2,9 @@
 use Rattle.std.proofs.Common.{ℕ, ◌≡◌, List, [], ◌∷◌, Option, Some, None, inl, inr, refl}
 use Rattle.std.specs.Prelude.{IsTrue, IfOk, Result, Ok, Err}
 use Rattle.std.specs.List.{list_all}
-use Rattle.mr_value.specs.Words.{fits}
-use Rattle.mr_value.specs.declared.ends.End.TheVariants.{Left, Right}
-use Rattle.mr_words.specs.Names.{lowered, named}
+use Rattle.mr_bytes.specs.Words.{fits}
+use Rattle.mr_bytes.specs.declared.ends.End.TheVariants.{Left, Right}
+use Rattle.mr_arguments.specs.Names.{lowered, named}
 use Rattle.mr_cmd_string.specs.Arguments.{get, set, setex, psetex, strlen, getrange, mget, setnx, getset, getdel, mset, msetnx, append, setrange, step, incrby, decrby}
 use Rattle.mr_cmd_key.specs.Arguments.{del, unlink, exists, key_type, keys, scan, dbsize, rename, renamenx, clear, expire, ttl, pttl, expiretime, pexpiretime, persist}
 use Rattle.mr_cmd_hash.specs.Arguments.{hset, hsetnx, hget, hmget, list_hash, hdel, hexists, hlen, hstrlen, hincrby}
@@ -15,8 +15,8 @@ use Rattle.mr_cmd_server.specs.Arguments.{ping, echo, select, quit, bgrewriteaof
 use Rattle.mr_ask.specs.Asks.{asked, asked_by, reading}
 use Rattle.mr_ask.specs.Carried.{AskFits}
 use Rattle.mr_ask.specs.Spelled.{SpellsNamed, Spells}
-use Rattle.mr_words.proofs.FitLemmas.{second, of_parts_fit}
-use Rattle.mr_words.proofs.NameLemmas.{named_is}
+use Rattle.mr_arguments.proofs.FitLemmas.{second, of_parts_fit}
+use Rattle.mr_arguments.proofs.NameLemmas.{named_is}
 use Rattle.mr_ask.proofs.Carries.{of_kind_carries}
 use Rattle.mr_ask.proofs.TimeLemmas.{IsTimedAsk, reading_timed}
 use Rattle.mr_cmd_string.proofs.ArgumentLemmas.{get_carries, set_carries, setex_carries, psetex_carries, strlen_carries, getrange_carries, mget_carries, setnx_carries, getset_carries, getdel_carries, mset_carries, msetnx_carries, append_carries, setrange_carries, incr_carries, decr_carries, incrby_carries, decrby_carries}
@@ -35,8 +35,8 @@ use Rattle.mr_cmd_server.proofs.FitLemmas.{carried_server}
 use Rattle.mr_cmd_node.specs.Arguments.{psync, replconf, replicaof, multi, exec, discard}
 use Rattle.mr_cmd_node.proofs.ArgumentLemmas.{psync_spells, replconf_spells, replicaof_spells, multi_spells, exec_spells, discard_spells}
 use Rattle.mr_cmd_node.proofs.FitLemmas.{node_fits}
-use Rattle.mr_words.specs.declared.name.Name.{Name}
-use Rattle.mr_words.specs.declared.name.Name.TheVariants as name
+use Rattle.mr_arguments.specs.declared.name.Name.{Name}
+use Rattle.mr_arguments.specs.declared.name.Name.TheVariants as name
 use Rattle.mr_expiry.specs.declared.expiry.ExpiryUnit.TheVariants as unit
 use Rattle.mr_cmd_string.specs.declared.text_ask.Amount.TheVariants as amount
 use Rattle.mr_cmd_key.specs.declared.key_ask.Databases.TheVariants as databases
@@ -46,7 +46,7 @@ use Rattle.mr_cmd_list.specs.declared.list_ask.PushTo.TheVariants.{AnyKey, Exist
 use Rattle.mr_cmd_set.specs.declared.set_ask.SetOperation.TheVariants.{Intersection, Union, Difference}
 use Rattle.mr_ask.specs.declared.ask.Ask.{Ask}
 use Rattle.mr_ask.specs.declared.ask.Ask.TheVariants as ask
-use Rattle.mr_words.specs.declared.fault.AskFault.{AskFault}
+use Rattle.mr_arguments.specs.declared.fault.AskFault.{AskFault}
 
 reading_carries : (n : Name) (ws : List (List ℕ)) → IfOk (reading n ws) (SpellsNamed n ws)
 reading_carries name.Get ws = of_kind_carries (get ws) ask.Texts (SpellsNamed name.Get ws) (get_carries ws)

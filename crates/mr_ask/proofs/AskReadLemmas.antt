@@ -1,8 +1,8 @@
 -- Words that spell a command are read as it.
 use Rattle.std.proofs.Common.{ℕ, ◌≡◌, List, [], ◌∷◌, sym, ◌∙◌, ap}
 use Rattle.std.specs.Prelude.{Ok}
-use Rattle.mr_words.proofs.ReadLemmas.{name_is}
-use Rattle.mr_words.specs.declared.name.Name.{Name}
+use Rattle.mr_arguments.proofs.ReadLemmas.{name_is}
+use Rattle.mr_arguments.specs.declared.name.Name.{Name}
 use Rattle.mr_ask.specs.Askable.{IsAskable}
 use Rattle.mr_ask.specs.Asks.{asked, asked_by, reading}
 use Rattle.mr_ask.specs.Spelled.{Spells, SpellsNamed}

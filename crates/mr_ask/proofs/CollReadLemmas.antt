@@ -4,18 +4,18 @@ use Rattle.std.specs.Prelude.{if◌then◌else◌, Result, Ok, Err}
 use Rattle.std.specs.Fmt.{signed_decimal}
 use Rattle.std.specs.Option.{ok_or}
 use Rattle.std.specs.Str.{bytes_eq}
-use Rattle.mr_value.specs.declared.ends.End.{End}
-use Rattle.mr_value.specs.declared.ends.End.TheVariants.{Left, Right}
-use Rattle.mr_value.specs.declared.ends.Side.{Side}
-use Rattle.mr_value.specs.declared.ends.Side.TheVariants.{Before, After}
-use Rattle.mr_value.proofs.Numbers.{number_of-signed_decimal}
-use Rattle.mr_words.specs.Parts.{with, count}
-use Rattle.mr_words.specs.Spelling.{Word, Number, Keyword, ScoreBound, IsPart, AreParts}
-use Rattle.mr_words.proofs.ReadLemmas.{four_parts, keyword_is, literals, one_part, pairs_itself, three_parts, two_parts, words_are}
-use Rattle.mr_words.specs.declared.name.Name.{Name}
-use Rattle.mr_words.specs.declared.name.Name.TheVariants as name
-use Rattle.mr_words.specs.declared.fault.AskFault.{AskFault}
-use Rattle.mr_words.specs.declared.fault.AskFault.TheVariants.{Arity, Syntax}
+use Rattle.mr_bytes.specs.declared.ends.End.{End}
+use Rattle.mr_bytes.specs.declared.ends.End.TheVariants.{Left, Right}
+use Rattle.mr_bytes.specs.declared.ends.Side.{Side}
+use Rattle.mr_bytes.specs.declared.ends.Side.TheVariants.{Before, After}
+use Rattle.mr_bytes.proofs.Numbers.{number_of-signed_decimal}
+use Rattle.mr_arguments.specs.Parts.{with, count}
+use Rattle.mr_arguments.specs.Spelling.{Word, Number, Keyword, ScoreBound, IsPart, AreParts}
+use Rattle.mr_arguments.proofs.ReadLemmas.{four_parts, keyword_is, literals, one_part, pairs_itself, three_parts, two_parts, words_are}
+use Rattle.mr_arguments.specs.declared.name.Name.{Name}
+use Rattle.mr_arguments.specs.declared.name.Name.TheVariants as name
+use Rattle.mr_arguments.specs.declared.fault.AskFault.{AskFault}
+use Rattle.mr_arguments.specs.declared.fault.AskFault.TheVariants.{Arity, Syntax}
 use Rattle.mr_cmd_hash.specs.Called.{hash_name}
 use Rattle.mr_cmd_list.specs.Called.{list_name}
 use Rattle.mr_cmd_set.specs.Called.{set_name}

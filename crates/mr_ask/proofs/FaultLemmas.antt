@@ -3,18 +3,18 @@ use Rattle.std.proofs.Common.{ℕ, ℤ, ◌≡◌, List, [], ◌∷◌, ◌++◌
 use Rattle.std.specs.Prelude.{if◌then◌else◌, Result, Ok, Err}
 use Rattle.std.specs.Option.{ok_or}
 use Rattle.std.specs.Str.{bytes_eq}
-use Rattle.mr_value.specs.Number.{number_of}
-use Rattle.mr_value.specs.declared.ends.End.TheVariants.{Left, Right}
-use Rattle.mr_words.specs.Names.{lowered, named}
-use Rattle.mr_words.specs.Pairing.{are_pairs, paired}
-use Rattle.mr_words.specs.Parts.{with, integer, count, offset}
-use Rattle.mr_words.specs.FaultOrder.{counted, first_of, in_reading, answered_fault}
-use Rattle.mr_words.proofs.FaultPlaces.{OnlyFault}
-use Rattle.mr_words.specs.declared.name.Name.{Name}
-use Rattle.mr_words.specs.declared.name.Name.TheVariants as name
-use Rattle.mr_words.specs.declared.fault.AskFault.{AskFault}
-use Rattle.mr_words.specs.declared.fault.AskFault.TheVariants.{Arity, Syntax, Integer, Other}
-use Rattle.mr_words.specs.declared.fault.BadValue.TheVariants as bad
+use Rattle.mr_bytes.specs.Number.{number_of}
+use Rattle.mr_bytes.specs.declared.ends.End.TheVariants.{Left, Right}
+use Rattle.mr_arguments.specs.Names.{lowered, named}
+use Rattle.mr_arguments.specs.Pairing.{are_pairs, paired}
+use Rattle.mr_arguments.specs.Parts.{with, integer, count, offset}
+use Rattle.mr_arguments.specs.FaultOrder.{counted, first_of, in_reading, answered_fault}
+use Rattle.mr_arguments.proofs.FaultPlaces.{OnlyFault}
+use Rattle.mr_arguments.specs.declared.name.Name.{Name}
+use Rattle.mr_arguments.specs.declared.name.Name.TheVariants as name
+use Rattle.mr_arguments.specs.declared.fault.AskFault.{AskFault}
+use Rattle.mr_arguments.specs.declared.fault.AskFault.TheVariants.{Arity, Syntax, Integer, Other}
+use Rattle.mr_arguments.specs.declared.fault.BadValue.TheVariants as bad
 use Rattle.mr_cmd_list.specs.Parts.{end_of, end_text, side_of}
 use Rattle.mr_cmd_hash.specs.declared.hash_ask.FieldsReply.TheVariants.{Added, Done}
 use Rattle.mr_cmd_hash.specs.declared.hash_ask.HashAsk.TheVariants as hash

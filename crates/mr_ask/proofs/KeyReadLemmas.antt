@@ -1,10 +1,10 @@
 -- Words that spell a command on keys are read as it.
 use Rattle.std.proofs.Common.{ℕ, ◌≡◌, List, [], ◌∷◌, map, Some, None, refl, ap, subst}
 use Rattle.std.specs.Prelude.{Ok}
-use Rattle.mr_words.specs.Spelling.{Word, AreParts}
-use Rattle.mr_words.proofs.ReadLemmas.{literals, words_are}
+use Rattle.mr_arguments.specs.Spelling.{Word, AreParts}
+use Rattle.mr_arguments.proofs.ReadLemmas.{literals, words_are}
 use Rattle.mr_cmd_key.proofs.ReadLemmas.{scan_is_read, expires, cleared}
-use Rattle.mr_words.specs.declared.name.Name.TheVariants as name
+use Rattle.mr_arguments.specs.declared.name.Name.TheVariants as name
 use Rattle.mr_cmd_key.specs.Askable.{KeyIsAskable}
 use Rattle.mr_ask.specs.Asks.{of_kind, reading}
 use Rattle.mr_cmd_key.specs.Called.{key_name}

@@ -4,9 +4,9 @@ use Rattle.std.specs.Prelude.{if◌then◌else◌, nat_lt, Result, Ok, Err}
 use Rattle.std.specs.List.{AllByRecursion}
 use Rattle.std.proofs.lemmas.Bool.Decides.{nat_tests}
 use Rattle.std.proofs.lemmas.List.Elements.{All-from_recursion}
-use Rattle.mr_words.specs.declared.fault.AskFault.{AskFault}
+use Rattle.mr_arguments.specs.declared.fault.AskFault.{AskFault}
 use Rattle.mr_ask.specs.Asks.{asked}
-use Rattle.mr_words.specs.FaultOrder.{earlier, earlier_of_any, first_of, place_of, answered_fault, IsFirst}
+use Rattle.mr_arguments.specs.FaultOrder.{earlier, earlier_of_any, first_of, place_of, answered_fault, IsFirst}
 use Rattle.mr_ask.specs.WordFaults.{word_faults}
 use Rattle.mr_ask.proofs.FaultLemmas.{first_is_answered}
 use Rattle.mr_ask.specs.declared.ask.Ask.{Ask}

@@ -1,9 +1,9 @@
 -- Words that spell a command to the node are read as it.
 use Rattle.std.proofs.Common.{ℕ, ◌≡◌, List, [], inl, inr, ◌∙◌, ap}
 use Rattle.std.specs.Prelude.{Ok}
-use Rattle.mr_words.proofs.ReadLemmas.{words_are}
-use Rattle.mr_words.specs.declared.name.Name.{Name}
-use Rattle.mr_words.specs.declared.name.Name.TheVariants as name
+use Rattle.mr_arguments.proofs.ReadLemmas.{words_are}
+use Rattle.mr_arguments.specs.declared.name.Name.{Name}
+use Rattle.mr_arguments.specs.declared.name.Name.TheVariants as name
 use Rattle.mr_cmd_node.specs.Askable.{NodeIsAskable}
 use Rattle.mr_cmd_node.specs.Spelled.{IsFollowing, NodeSpells}
 use Rattle.mr_cmd_node.specs.declared.node_ask.NodeAsk.{NodeAsk}

@@ -3,13 +3,13 @@ use Rattle.std.proofs.Common.{ℕ, pos, ◌≡◌, List, [], ◌∷◌, map, ref
 use Rattle.std.specs.Prelude.{neg_ℤ, Ok}
 use Rattle.std.specs.Option.{ok_or}
 use Rattle.std.proofs.Math.IntN.{neg_ℤ-neg_ℤ}
-use Rattle.mr_value.proofs.Numbers.{number_of-signed_decimal}
-use Rattle.mr_words.specs.Parts.{with}
-use Rattle.mr_words.specs.Spelling.{Word, Number, AreParts}
-use Rattle.mr_words.proofs.ReadLemmas.{from_one, literals, pairs_itself, words_are}
+use Rattle.mr_bytes.proofs.Numbers.{number_of-signed_decimal}
+use Rattle.mr_arguments.specs.Parts.{with}
+use Rattle.mr_arguments.specs.Spelling.{Word, Number, AreParts}
+use Rattle.mr_arguments.proofs.ReadLemmas.{from_one, literals, pairs_itself, words_are}
 use Rattle.mr_cmd_string.proofs.ReadLemmas.{set_is_read}
-use Rattle.mr_words.specs.declared.name.Name.TheVariants as name
-use Rattle.mr_words.specs.declared.fault.AskFault.TheVariants.{Arity}
+use Rattle.mr_arguments.specs.declared.name.Name.TheVariants as name
+use Rattle.mr_arguments.specs.declared.fault.AskFault.TheVariants.{Arity}
 use Rattle.mr_cmd_string.specs.Askable.{TextIsAskable}
 use Rattle.mr_ask.specs.Asks.{of_kind, reading}
 use Rattle.mr_cmd_string.specs.Called.{text_name}

@@ -6,9 +6,9 @@ use Rattle.mr_ask.specs.Asks.{of_kind, reading}
 use Rattle.mr_cmd_string.specs.Carried.{IsTimed}
 use Rattle.mr_ask.specs.Spelled.{SpellsNamed}
 use Rattle.mr_cmd_string.proofs.TimeLemmas.{set_timed, setex_timed, psetex_timed}
-use Rattle.mr_words.specs.declared.name.Name.{Name}
-use Rattle.mr_words.specs.declared.name.Name.TheVariants as name
-use Rattle.mr_words.specs.declared.fault.AskFault.{AskFault}
+use Rattle.mr_arguments.specs.declared.name.Name.{Name}
+use Rattle.mr_arguments.specs.declared.name.Name.TheVariants as name
+use Rattle.mr_arguments.specs.declared.fault.AskFault.{AskFault}
 use Rattle.mr_cmd_string.specs.declared.text_ask.TextAsk.{TextAsk}
 use Rattle.mr_cmd_string.specs.declared.text_ask.TextAsk.TheVariants as text
 use Rattle.mr_ask.specs.declared.ask.Ask.{Ask}

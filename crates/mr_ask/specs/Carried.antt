@@ -1,7 +1,7 @@
 -- The words that a command carries.
 use Rattle.std.specs.Prelude.{ℕ, List, IsTrue}
 use Rattle.std.specs.List.{list_all}
-use Rattle.mr_value.specs.Words.{fits}
+use Rattle.mr_bytes.specs.Words.{fits}
 use Rattle.mr_cmd_hash.specs.Carried.{hash_words}
 use Rattle.mr_cmd_list.specs.Carried.{list_words}
 use Rattle.mr_cmd_set.specs.Carried.{set_words}

@@ -1,6 +1,6 @@
 -- The kind of each command: what it works on.
-use Rattle.mr_words.specs.declared.name.Name.{Name}
-use Rattle.mr_words.specs.declared.name.Name.TheVariants as name
+use Rattle.mr_arguments.specs.declared.name.Name.{Name}
+use Rattle.mr_arguments.specs.declared.name.Name.TheVariants as name
 
 pub data Kind : Type 0 where
   -- strings

@@ -1,7 +1,7 @@
 -- The words that a command is spelled by.
 use Rattle.std.specs.Prelude.{◌≡◌, ℕ, List, [], ◌∷◌}
-use Rattle.mr_words.specs.Names.{lowered, text_of}
-use Rattle.mr_words.specs.declared.name.Name.{Name}
+use Rattle.mr_arguments.specs.Names.{lowered, text_of}
+use Rattle.mr_arguments.specs.declared.name.Name.{Name}
 use Rattle.mr_cmd_string.specs.Spelled.{TextSpells}
 use Rattle.mr_cmd_key.specs.Spelled.{KeySpells}
 use Rattle.mr_cmd_server.specs.Spelled.{ServerSpells}

@@ -1,18 +1,18 @@
 -- The faults that the words of a request have, each word taken by itself. Answered is the one that comes first in the order of faults.
 use Rattle.std.specs.Prelude.{ℕ, List, [], ◌∷◌, ◌++◌, if◌then◌else◌, Option, Some, None, option_map}
-use Rattle.mr_words.specs.FaultOrder.{counted, in_reading}
-use Rattle.mr_words.specs.Names.{lowered, named}
-use Rattle.mr_words.specs.Pairing.{are_pairs}
-use Rattle.mr_words.specs.Parts.{with, integer, count, offset}
+use Rattle.mr_arguments.specs.FaultOrder.{counted, in_reading}
+use Rattle.mr_arguments.specs.Names.{lowered, named}
+use Rattle.mr_arguments.specs.Pairing.{are_pairs}
+use Rattle.mr_arguments.specs.Parts.{with, integer, count, offset}
 use Rattle.mr_cmd_list.specs.Parts.{end_of, side_of}
 use Rattle.mr_zset_options.specs.Parts.{bound, score}
 use Rattle.mr_cmd_zset.specs.ArgumentFaults.{add_faults, range_faults, reversed_faults, score_range_faults}
 use Rattle.mr_cmd_string.specs.Parts.{milliseconds, opposite, seconds}
 use Rattle.mr_cmd_server.specs.Arguments.{database}
-use Rattle.mr_words.specs.declared.name.Name.{Name}
-use Rattle.mr_words.specs.declared.name.Name.TheVariants as name
-use Rattle.mr_words.specs.declared.fault.AskFault.{AskFault}
-use Rattle.mr_words.specs.declared.fault.AskFault.TheVariants.{Unknown}
+use Rattle.mr_arguments.specs.declared.name.Name.{Name}
+use Rattle.mr_arguments.specs.declared.name.Name.TheVariants as name
+use Rattle.mr_arguments.specs.declared.fault.AskFault.{AskFault}
+use Rattle.mr_arguments.specs.declared.fault.AskFault.TheVariants.{Unknown}
 use Rattle.mr_expiry.specs.declared.expiry.ExpiryUnit.TheVariants as unit
 use Rattle.mr_cmd_string.specs.ArgumentFaults.{key_value_options}
 use Rattle.mr_cmd_key.specs.ArgumentFaults.{cursor_and_options, time_and_condition, timing_alone}

@@ -4,7 +4,7 @@ ghost use Rattle.mr_ask.specs.Askable.{IsAskable};
 ghost use Rattle.mr_ask.specs.Asks.{asked};
 ghost use Rattle.mr_ask.specs.Spelled.{Spells};
 ghost use Rattle.mr_ask.specs.WordFaults.{word_faults};
-ghost use Rattle.mr_words.specs.FaultOrder.{IsFirst, first_of, answered_fault};
+ghost use Rattle.mr_arguments.specs.FaultOrder.{IsFirst, first_of, answered_fault};
 ghost use Rattle.mr_ask.specs.declared.ask.Ask.{Ask};
 
 /// Words that spell a command are read as it: whatever case its name and its options are written in, and whatever order these stand in.

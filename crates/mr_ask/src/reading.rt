@@ -2,7 +2,7 @@
 ghost use Rattle.std.specs.Prelude.{◌≡◌, ◌<◌, length, map, IsTrue, IfOk};
 ghost use Rattle.std.specs.List.{list_all};
 ghost use Rattle.std.specs.Cow.{cow_slice_items};
-ghost use Rattle.mr_value.specs.Words.{fits};
+ghost use Rattle.mr_bytes.specs.Words.{fits};
 ghost use Rattle.mr_ask.specs.Asks.{asked, reading, of_kind};
 ghost use Rattle.mr_ask.specs.Carried.{AskFits};
 ghost use Rattle.mr_ask.specs.Spelled.{Spells};
@@ -11,6 +11,8 @@ ghost use Rattle.mr_ask.specs.Kinds as kind;
 ghost use Rattle.mr_ask.specs.declared.ask.Ask.TheVariants as ask;
 
 use crate::ask::Ask;
+use mr_arguments::{Arguments, AskFault, Name};
+use mr_bytes::End;
 use mr_cmd_hash::{FieldsReply, HashAsk, HashPart, arguments as hashes};
 use mr_cmd_key::{Databases, KeyAsk, arguments as keys};
 use mr_cmd_list::{ListAsk, PushTo, arguments as lists};
@@ -20,8 +22,6 @@ use mr_cmd_set::{SetAsk, SetOperation, arguments as sets};
 use mr_cmd_string::{Amount, TextAsk, arguments as texts};
 use mr_cmd_zset::{ZSetAsk, arguments as zset};
 use mr_expiry::ExpiryUnit;
-use mr_value::End;
-use mr_words::{Arguments, AskFault, Name};
 use mr_zset_options::Order;
 use std::borrow::CowSlice;
 

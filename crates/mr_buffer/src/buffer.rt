@@ -1,13 +1,17 @@
 ghost use Rattle.std.specs.Prelude.{◌≡◌, ◌++◌, ◌≤◌, ◌↔◌, [], length, drop, IsTrue, OnOk, OnErr};
 
+use crate::room::reserve;
 use std::alloc::{AllocError, Global};
 use std::marker::Model;
 
 /// What an emptied buffer keeps of its room at most.
 const KEPT_ROOM: usize = 65_536;
 
-/// The bytes that came and weren't used, in order. Used bytes make room only when more come and they are more than what is
-/// left, so that fewer bytes are moved than were used.
+/// Where more bytes were used, they don't wait until more come.
+const MUCH_USED: usize = 1_048_576;
+
+/// The bytes that came and weren't used, in order. Used bytes make room only when more come, or once they are many, and where
+/// they are more than what is left: so fewer bytes are moved than were used.
 #[derive(Drop)]
 pub struct Buffer {
     alloc: Global,
@@ -65,16 +69,21 @@ impl Buffer {
         ensures err { OnErr result (self.new ≡ self.old) }
     {
         self.compact();
+        reserve(&mut self.bytes, bytes.len())?;
         self.bytes.extend_from_slice(bytes)?;
         Ok(())
     }
 
-    /// Uses so many of the bytes that are left.
+    /// Uses so many of the bytes that are left. Many used bytes go at once, with their room.
     pub fn take(&mut self, count: usize)
         requires { count ≤ length self.old }
         ensures { self.new ≡ drop count self.old }
     {
         self.used += count;
+        if self.used > MUCH_USED {
+            self.compact();
+            self.give_back();
+        }
     }
 
     /// Drops what is left. Of its room it keeps 64 KiB at most.
@@ -95,6 +104,15 @@ impl Buffer {
     {
         self.used = 0;
         self.bytes = Vec::new(self.alloc);
+    }
+
+    /// Room that isn't needed goes, unless there are used bytes still.
+    fn give_back(&mut self)
+        ensures { self.new ≡ self.old }
+    {
+        if self.used == 0 {
+            self.bytes.shrink_to(KEPT_ROOM);
+        }
     }
 
     /// Used bytes go where they are more than what is left.

@@ -2,5 +2,7 @@
 #![tactic(auto)]
 
 mod buffer;
+mod room;
 
 pub use buffer::Buffer;
+pub use room::reserve;

@@ -8,7 +8,7 @@ use Rattle.std.proofs.lemmas.Fmt.{decimal_is_IsNumeral}
 use Rattle.std.specs.Int.{FitsUnsignedBits}
 use Rattle.std.specs.Result.{OkIff, result_ok}
 use Rattle.std.proofs.lemmas.Bool.{lt-ltb}
-use Rattle.mr_value.specs.Number.{is_i64}
+use Rattle.mr_bytes.specs.Number.{is_i64}
 use Rattle.mr_client.specs.Lines.{HasNoFeed}
 
 of_digits : (ds : List ℕ) → AllDigits 10 ds → HasNoFeed ds

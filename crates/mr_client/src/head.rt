@@ -4,7 +4,7 @@ ghost use Rattle.mr_resp.specs.Spelling.{line_end};
 ghost use Rattle.mr_client.specs.Heads.{IsFirst, IsListHead, IsWordBehind, NoListHead, NoneIsFirst, NoWordBehind, is_text_form, none_text};
 
 use crate::line::first_line;
-use mr_value::read_i64;
+use mr_bytes::read_i64;
 
 /// What stands in the place of a length or a count where there is no word or no list.
 const NONE: &[u8] = b"-1";

@@ -6,12 +6,12 @@ use Rattle.std.specs.List.{AllByRecursion}
 use Rattle.std.specs.FinMap.{empty, get, insert, remove, len, entries, keys, contains_key, empty_of_len, get-empty, get-insert, get-remove, len-insert, len-remove}
 use Rattle.std.proofs.lemmas.Cmp.{nat_list_cmp_total}
 use Rattle.mr_map.specs.Bytes.{Bytes, bytes_cmp}
-use Rattle.mr_value.specs.Number.{is_i64}
+use Rattle.mr_bytes.specs.Number.{is_i64}
 use Rattle.mr_resp.specs.Replies as reply
 use Rattle.mr_resp.specs.ReplyView.{trees_of}
 use Rattle.mr_entries.specs.Collections.{with_fields, without_fields, with_members}
 use Rattle.mr_entries.proofs.Maps.{got}
-use Rattle.mr_planning.specs.Taken.{is_key}
+use Rattle.mr_room.specs.Taken.{is_key}
 use Rattle.mr_cmd_hash.specs.Hashes.{Hash, count_reply, value_reply, hget, last_values, count_new, set_pairs, unchanged, overflow, number_at, increase_from, removed}
 use Rattle.mr_cmd_hash.specs.Laws.{SetCountsNewFields, SetIsRead, RemoveCountsFields, IncreaseIsRead, HMGetIsHGetOfEach}
 use Rattle.mr_cmd_hash.proofs.Fields.{Pair, AreApart, entries_apart, with_entries}

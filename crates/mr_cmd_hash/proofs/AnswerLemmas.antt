@@ -5,9 +5,9 @@ use Rattle.mr_effect.specs.declared.effect.Effect.{Effect}
 use Rattle.mr_entries.specs.Steps.{hashes, held}
 use Rattle.mr_entries.specs.declared.value.Entry.{Entry}
 use Rattle.mr_cmd_hash.specs.declared.hash_ask.HashAsk.{HashAsk}
-use Rattle.mr_planning.specs.Answered.{Answered, Takes, wrong_kind}
-use Rattle.mr_planning.specs.Collections.{changed}
-use Rattle.mr_planning.proofs.PlanLemmas.{takes_reply}
+use Rattle.mr_room.specs.Answered.{Answered, Takes, wrong_kind}
+use Rattle.mr_room.specs.Collections.{changed}
+use Rattle.mr_room.proofs.PlanLemmas.{takes_reply}
 use Rattle.mr_cmd_hash.specs.Hashes.{Hash}
 use Rattle.mr_cmd_hash.specs.Commands.{change, answer_of, Makes}
 

@@ -2,21 +2,21 @@
 use Rattle.std.proofs.Common.{ℕ, ◌≡◌, List, [], ◌∷◌, map, refl, subst}
 use Rattle.std.specs.Prelude.{IsTrue, IfOk}
 use Rattle.std.specs.List.{list_all}
-use Rattle.mr_value.specs.Words.{fits}
+use Rattle.mr_bytes.specs.Words.{fits}
 use Rattle.mr_cmd_hash.specs.Arguments.{hset, hsetnx, hget, hmget, list_hash, hdel, hexists, hlen, hstrlen, hincrby}
 use Rattle.mr_cmd_hash.specs.Called.{hash_name}
 use Rattle.mr_cmd_hash.specs.Carried.{hash_words}
-use Rattle.mr_words.specs.Spelling.{Word, AreParts}
-use Rattle.mr_words.proofs.FitLemmas.{all_words, carried, carried-words, of_parts_fit}
+use Rattle.mr_arguments.specs.Spelling.{Word, AreParts}
+use Rattle.mr_arguments.proofs.FitLemmas.{all_words, carried, carried-words, of_parts_fit}
 use Rattle.mr_cmd_hash.specs.Spelled.{hash_parts, HashSpells}
-use Rattle.mr_words.proofs.PartLemmas.{with_integer, with_pairs}
-use Rattle.mr_words.specs.declared.name.Name.{Name}
-use Rattle.mr_words.specs.declared.name.Name.TheVariants as name
+use Rattle.mr_arguments.proofs.PartLemmas.{with_integer, with_pairs}
+use Rattle.mr_arguments.specs.declared.name.Name.{Name}
+use Rattle.mr_arguments.specs.declared.name.Name.TheVariants as name
 use Rattle.mr_cmd_hash.specs.declared.hash_ask.HashAsk.{HashAsk}
 use Rattle.mr_cmd_hash.specs.declared.hash_ask.HashAsk.TheVariants as hash
 use Rattle.mr_cmd_hash.specs.declared.hash_ask.FieldsReply.{FieldsReply}
 use Rattle.mr_cmd_hash.specs.declared.hash_ask.HashPart.{HashPart}
-use Rattle.mr_words.specs.declared.fault.AskFault.TheVariants.{Arity}
+use Rattle.mr_arguments.specs.declared.fault.AskFault.TheVariants.{Arity}
 
 pub hset_spells : (n : Name) (r : FieldsReply) → ((k : List ℕ) (ps : List (List ℕ × List ℕ)) → hash_name (hash.HSet k ps r) ≡ n) → (ws : List (List ℕ)) → IfOk (hset n r ws) (HashSpells n ws)
 hset_spells n r is [] = tt

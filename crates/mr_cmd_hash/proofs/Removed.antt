@@ -8,9 +8,9 @@ use Rattle.std.specs.FinMap.Entries.{below_all}
 use Rattle.std.proofs.lemmas.Cmp.{nat_list_cmp_total}
 use Rattle.std.proofs.lemmas.Map.Lookups.{exact_bytes}
 use Rattle.mr_map.specs.Bytes.{Bytes, ByteMap, bytes_cmp}
-use Rattle.mr_value.specs.Words.{fits}
+use Rattle.mr_bytes.specs.Words.{fits}
 use Rattle.mr_entries.specs.Collections.{without_fields, with_members}
-use Rattle.mr_planning.specs.Taken.{has, is_key}
+use Rattle.mr_room.specs.Taken.{has, is_key}
 use Rattle.mr_entries.proofs.Maps.{same_key}
 use Rattle.mr_entries.proofs.Puts.{is_key_itself}
 use Rattle.mr_cmd_hash.specs.Hashes.{Hash, removed}

@@ -8,7 +8,7 @@ use Rattle.std.specs.FinMap.{empty, get, insert, entries, contains_key, put, ent
 use Rattle.std.proofs.lemmas.Cmp.{nat_list_cmp_total}
 use Rattle.std.proofs.lemmas.Bool.{lt-ltb}
 use Rattle.mr_map.specs.Bytes.{Bytes, bytes_cmp}
-use Rattle.mr_value.specs.Number.{is_i64}
+use Rattle.mr_bytes.specs.Number.{is_i64}
 use Rattle.mr_resp.specs.Replies as reply
 use Rattle.mr_resp.specs.Replies.{Tree}
 use Rattle.mr_effect.specs.declared.effect.Effect.{Effect}

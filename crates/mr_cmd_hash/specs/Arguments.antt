@@ -1,14 +1,14 @@
 -- Commands on hashes.
 use Rattle.std.specs.Prelude.{ℕ, List, [], ◌∷◌, Result, Ok, Err}
-use Rattle.mr_words.specs.declared.name.Name.{Name}
-use Rattle.mr_words.specs.declared.name.Name.TheVariants as name
-use Rattle.mr_words.specs.declared.fault.AskFault.{AskFault}
-use Rattle.mr_words.specs.declared.fault.AskFault.TheVariants.{Arity}
+use Rattle.mr_arguments.specs.declared.name.Name.{Name}
+use Rattle.mr_arguments.specs.declared.name.Name.TheVariants as name
+use Rattle.mr_arguments.specs.declared.fault.AskFault.{AskFault}
+use Rattle.mr_arguments.specs.declared.fault.AskFault.TheVariants.{Arity}
 use Rattle.mr_cmd_hash.specs.declared.hash_ask.HashAsk.{HashAsk}
 use Rattle.mr_cmd_hash.specs.declared.hash_ask.HashAsk.TheVariants as ask
 use Rattle.std.specs.Option.{ok_or}
-use Rattle.mr_words.specs.Pairing.{pairs_of}
-use Rattle.mr_words.specs.Parts.{with, integer}
+use Rattle.mr_arguments.specs.Pairing.{pairs_of}
+use Rattle.mr_arguments.specs.Parts.{with, integer}
 use Rattle.mr_cmd_hash.specs.declared.hash_ask.FieldsReply.{FieldsReply}
 use Rattle.mr_cmd_hash.specs.declared.hash_ask.HashPart.{HashPart}
 

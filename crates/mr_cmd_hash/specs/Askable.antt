@@ -1,6 +1,6 @@
 -- Which commands on hashes words can ask for.
 use Rattle.std.specs.Prelude.{◌≢◌, []}
-use Rattle.mr_words.specs.Askable.{IsI64}
+use Rattle.mr_arguments.specs.Askable.{IsI64}
 use Rattle.mr_cmd_hash.specs.declared.hash_ask.HashAsk.{HashAsk}
 use Rattle.mr_cmd_hash.specs.declared.hash_ask.HashAsk.TheVariants as hash
 

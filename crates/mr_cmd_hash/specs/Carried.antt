@@ -1,6 +1,6 @@
 -- The words that a command on hashes carries.
 use Rattle.std.specs.Prelude.{ℕ, List, [], ◌∷◌}
-use Rattle.mr_words.specs.Pairing.{unpaired}
+use Rattle.mr_arguments.specs.Pairing.{unpaired}
 use Rattle.mr_cmd_hash.specs.declared.hash_ask.HashAsk.{HashAsk}
 use Rattle.mr_cmd_hash.specs.declared.hash_ask.HashAsk.TheVariants as hash
 

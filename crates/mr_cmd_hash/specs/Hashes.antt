@@ -5,7 +5,7 @@ use Rattle.std.specs.FinMap.{empty, get, contains_key, len, keys, values, entrie
 use Rattle.std.specs.Fmt.{signed_decimal}
 use Rattle.std.specs.Str.{bytes_eq}
 use Rattle.mr_map.specs.Bytes.{Bytes, ByteMap}
-use Rattle.mr_value.specs.Number.{is_i64, number_of}
+use Rattle.mr_bytes.specs.Number.{is_i64, number_of}
 use Rattle.mr_resp.specs.Replies as reply
 use Rattle.mr_resp.specs.Replies.{Tree}
 use Rattle.mr_resp.specs.ReplyView.{trees_of}
@@ -17,8 +17,8 @@ use Rattle.mr_cmd_hash.specs.declared.hash_ask.FieldsReply.TheVariants as answer
 use Rattle.mr_cmd_hash.specs.declared.hash_ask.HashPart.{HashPart}
 use Rattle.mr_cmd_hash.specs.declared.hash_ask.HashPart.TheVariants as part
 use Rattle.mr_entries.specs.Cuts.{cut}
-use Rattle.mr_planning.specs.Answered.{done}
-use Rattle.mr_planning.specs.Collections.{Change}
+use Rattle.mr_room.specs.Answered.{done}
+use Rattle.mr_room.specs.Collections.{Change}
 
 abbrev pub Hash : Type 0
 Hash = ByteMap Bytes

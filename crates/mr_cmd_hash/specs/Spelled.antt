@@ -1,7 +1,7 @@
 -- The words that a command on hashes is spelled by.
 use Rattle.std.specs.Prelude.{ℕ, List, [], ◌∷◌, map}
-use Rattle.mr_words.specs.Spelling.{Part, Word, Number, AreParts, NameAndArguments}
-use Rattle.mr_words.specs.declared.name.Name.{Name}
+use Rattle.mr_arguments.specs.Spelling.{Part, Word, Number, AreParts, NameAndArguments}
+use Rattle.mr_arguments.specs.declared.name.Name.{Name}
 use Rattle.mr_cmd_hash.specs.Called.{hash_name}
 use Rattle.mr_cmd_hash.specs.Carried.{hash_words}
 use Rattle.mr_cmd_hash.specs.declared.hash_ask.HashAsk.{HashAsk}

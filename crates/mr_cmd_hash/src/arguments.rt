@@ -4,7 +4,7 @@ ghost use Rattle.std.specs.Cow.{cow_slice_items};
 ghost use Rattle.mr_cmd_hash.specs.Arguments.{hset, hsetnx, hget, hmget, list_hash, hdel, hexists, hlen, hstrlen, hincrby};
 
 use crate::hash_ask::{FieldsReply, HashAsk, HashPart};
-use mr_words::{Argument, Arguments, AskFault, Name, Pairs, Words, integer};
+use mr_arguments::{Argument, Arguments, AskFault, Name, Pairs, Words, integer};
 
 type Reading<'a, 't> = Result<HashAsk<'a, 't>, AskFault>;
 

@@ -1,5 +1,5 @@
 // Commands on hashes, with their arguments.
-use mr_words::{Argument, Pairs, Words};
+use mr_arguments::{Argument, Pairs, Words};
 
 /// A command on hashes, with its arguments.
 #[derive(Drop)]

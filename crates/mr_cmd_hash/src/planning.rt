@@ -3,20 +3,20 @@ ghost use Rattle.std.specs.Prelude.{◌≡◌, [], Some, IfOk, IsTrue, option_co
 ghost use Rattle.std.specs.List.{list_all};
 ghost use Rattle.std.specs.FinMap.{empty};
 ghost use Rattle.mr_resp.specs.ReplyView.{view};
-ghost use Rattle.mr_value.specs.Words.{fits};
+ghost use Rattle.mr_bytes.specs.Words.{fits};
 ghost use Rattle.mr_data.specs.Dataset.{IsDataset};
 ghost use Rattle.mr_entries.specs.Steps.{hashes, held};
 ghost use Rattle.mr_cmd_hash.specs.Carried.{hash_words};
-ghost use Rattle.mr_planning.specs.Commands.{IsPlan, IsFaithful, HasCommandTexts};
+ghost use Rattle.mr_room.specs.Commands.{IsPlan, IsFaithful, HasCommandTexts};
 ghost use Rattle.mr_cmd_hash.specs.Commands.{key_of, change, command, Makes};
 
 use crate::hash_ask::HashAsk;
 use crate::{reading, removing, setting};
+use mr_arguments::Argument;
 use mr_data::{Dataset, Entry, Given, Plan, Value};
-use mr_planning::{Effects, look, wrong_kind};
 use mr_resp::Reply;
+use mr_room::{Effects, look, wrong_kind};
 use mr_value::Hash;
-use mr_words::Argument;
 use std::alloc::{AllocError, Global};
 
 /// What a command on hashes is answered, and its effects. The dataset isn't changed, and the plan owns what it holds.

@@ -4,10 +4,10 @@ ghost use Rattle.mr_resp.specs.ReplyView.{view};
 ghost use Rattle.mr_cmd_hash.specs.Hashes.{value_reply, hget, hmget, list_hash, hexists, hlen, hstrlen};
 
 use crate::hash_ask::HashPart;
-use mr_planning::{count, integer};
+use mr_arguments::{Argument, Words};
 use mr_resp::Reply;
+use mr_room::{count, integer};
 use mr_value::Hash;
-use mr_words::{Argument, Words};
 use std::alloc::{AllocError, Global};
 
 /// A value as it is answered, or nil.

@@ -9,11 +9,11 @@ ghost use Rattle.mr_cmd_hash.specs.Hashes.{hdel};
 ghost use Rattle.mr_cmd_hash.specs.Commands.{Makes};
 
 use crate::groups::{FieldGroup, end_fields};
+use mr_arguments::{Argument, Words};
 use mr_map::SliceMap;
-use mr_planning::{Effects, count};
 use mr_resp::Reply;
+use mr_room::{Effects, count};
 use mr_value::Hash;
-use mr_words::{Argument, Words};
 use std::alloc::{AllocError, Global};
 
 /// Each field that is named, once. They are not copied.

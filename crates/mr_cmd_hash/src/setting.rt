@@ -11,11 +11,12 @@ use crate::groups::{PairGroup, end_pairs};
 use crate::hash_ask::FieldsReply;
 use crate::replies::{no_integer, overflow};
 use itoa::Buffer;
+use mr_arguments::{Argument, Pairs};
+use mr_bytes::read_i64;
 use mr_map::SliceMap;
-use mr_planning::{Effects, count, done, integer};
 use mr_resp::Reply;
-use mr_value::{Hash, read_i64};
-use mr_words::{Argument, Pairs};
+use mr_room::{Effects, count, done, integer};
+use mr_value::Hash;
 use std::alloc::{AllocError, Global};
 
 /// The fields that pairs name, each with its last value. They are not copied.

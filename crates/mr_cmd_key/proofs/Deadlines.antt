@@ -6,7 +6,7 @@ use Rattle.std.specs.Ordering.{int_eq}
 use Rattle.std.specs.FinMap.{get}
 use Rattle.std.proofs.lemmas.Bool.Decides.{Decides-int_eq}
 use Rattle.mr_map.specs.Bytes.{Bytes}
-use Rattle.mr_value.specs.Words.{fits}
+use Rattle.mr_bytes.specs.Words.{fits}
 use Rattle.mr_effect.specs.Effects.{is_deadline}
 use Rattle.mr_effect.specs.declared.effect.Effect.TheVariants as effect
 use Rattle.mr_effect.proofs.Texts.{short_effect}
@@ -16,7 +16,7 @@ use Rattle.mr_entries.specs.Steps.{expire_step, persist_step}
 use Rattle.mr_entries.specs.declared.value.Entry.{Entry}
 use Rattle.mr_data.specs.Dataset.{IsDataset, IsLifetime, live, is_expired}
 use Rattle.mr_data.specs.Meaning.{apply, apply_all}
-use Rattle.mr_planning.proofs.Laws.{IsFaithfulAnswer, if_faithful, kept_faithful, one_short}
+use Rattle.mr_room.proofs.Laws.{IsFaithfulAnswer, if_faithful, kept_faithful, one_short}
 use Rattle.mr_cmd_key.specs.declared.key_ask.ExpireCondition.{ExpireCondition}
 use Rattle.mr_cmd_key.specs.Expiring.{allows, with_deadline, is_until, lasting, ended, expire_answer, endless, persist_answer, CanBeNamed}
 

@@ -2,16 +2,16 @@
 use Rattle.std.proofs.Common.{ℕ, ℤ, pos, negsuc, zero, suc, ◌≡◌, List, [], ◌∷◌, ◌++◌, true, false, Option, Some, None, refl}
 use Rattle.std.specs.Prelude.{if◌then◌else◌, int_lt, option_map, Result, Ok, Err}
 use Rattle.std.specs.Option.{ok_or}
-use Rattle.mr_value.specs.Number.{number_of}
-use Rattle.mr_words.specs.Parts.{with, not_below_1}
-use Rattle.mr_words.specs.FaultOrder.{counted, first_of, in_reading, answered_fault}
-use Rattle.mr_words.proofs.FaultPlaces.{ComesBefore, ComesLater, no_other, OnlyFault}
-use Rattle.mr_words.specs.declared.name.Name.{Name}
-use Rattle.mr_words.specs.declared.name.Name.TheVariants as name
-use Rattle.mr_words.specs.declared.fault.AskFault.{AskFault}
-use Rattle.mr_words.specs.declared.fault.AskFault.TheVariants.{Syntax, Integer, ExpireTime, Other}
-use Rattle.mr_words.specs.declared.fault.BadValue.TheVariants as bad
-use Rattle.mr_words.specs.declared.fault.ExpiringCommand.{ExpiringCommand}
+use Rattle.mr_bytes.specs.Number.{number_of}
+use Rattle.mr_arguments.specs.Parts.{with, not_below_1}
+use Rattle.mr_arguments.specs.FaultOrder.{counted, first_of, in_reading, answered_fault}
+use Rattle.mr_arguments.proofs.FaultPlaces.{ComesBefore, ComesLater, no_other, OnlyFault}
+use Rattle.mr_arguments.specs.declared.name.Name.{Name}
+use Rattle.mr_arguments.specs.declared.name.Name.TheVariants as name
+use Rattle.mr_arguments.specs.declared.fault.AskFault.{AskFault}
+use Rattle.mr_arguments.specs.declared.fault.AskFault.TheVariants.{Syntax, Integer, ExpireTime, Other}
+use Rattle.mr_arguments.specs.declared.fault.BadValue.TheVariants as bad
+use Rattle.mr_arguments.specs.declared.fault.ExpiringCommand.{ExpiringCommand}
 use Rattle.mr_expiry.specs.Expiry.{expiry_of}
 use Rattle.mr_cmd_key.specs.Options.{condition_if_any, expire_condition, scan_options}
 use Rattle.mr_cmd_key.specs.Parts.{cursor_at, cursor_of, expiring, key_expiry, kind_of, positive_if_any}

@@ -1,5 +1,5 @@
 -- The keys that are seen at a moment, as they are listed.
-use Rattle.std.proofs.Common.{◌≡◌, ℤ, List, [], ◌∷◌, Bool, true, false, ◌&&◌, Option, Some, None, refl, ◌∙◌, ap}
+use Rattle.std.proofs.Common.{◌≡◌, ℤ, List, [], ◌∷◌, Bool, true, false, ◌&&◌, Option, Some, None, refl, sym, ◌∙◌, ap}
 use Rattle.std.specs.Prelude.{filter, is_some, if◌then◌else◌}
 use Rattle.std.specs.FinMap.{get, keys}
 use Rattle.mr_map.specs.Bytes.{Bytes}
@@ -32,3 +32,16 @@ listed_seen now pattern k m =
     ∙ filter_twice _ (λ q. is_some (live now (get m q))) (is_listed_at now pattern k m) (λ q.
     ap (λ o. is_some (live now (get m q)) && (is_matched pattern q && is_of_kind k o)) (get-seen now m q)
     ∙ listed_there (is_matched pattern q) k (live now (get m q))) (keys m)
+
+-- where all is live, those that match are listed, unless a kind is asked for
+pub listed_all : (now : ℤ) (pattern : Option Bytes) (k : Option KindName) (m : Dataset) → is_some k ≡ false → seen now m ≡ m → listed_at now pattern k m ≡ filter (is_matched pattern) (keys m)
+listed_all now pattern (Some k) m any all = cc
+listed_all now pattern None m any all =
+    sym (filter_twice (is_matched pattern) (λ q. is_some (live now (get m q))) (is_listed_at now pattern None m) (λ q. turned (live now (get m q)) (is_matched pattern q)) (keys m))
+    ∙ ap (filter (is_matched pattern)) (sym (keys_seen now m) ∙ ap keys all)
+  where
+    turned : (o : Option Entry) (a : Bool) → (is_some o && a) ≡ (a && is_of_kind None o)
+    turned None true = refl
+    turned None false = refl
+    turned (Some e) true = refl
+    turned (Some e) false = refl

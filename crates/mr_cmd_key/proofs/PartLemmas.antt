@@ -1,23 +1,23 @@
 -- What was read of an argument is what its word spells.
-use Rattle.mr_words.proofs.PartLemmas.{with_ok, integer_read, found_passes, ok_found}
+use Rattle.mr_arguments.proofs.PartLemmas.{with_ok, integer_read, found_passes, ok_found}
 use Rattle.std.proofs.Common.{arith, ℕ, zero, suc, ℤ, pos, negsuc, ◌≡◌, List, [], ◌∷◌, Bool, true, false, Option, Some, None, refl, ◌∙◌, ap, subst}
 use Rattle.std.specs.Prelude.{IsTrue, IfOk, IfSome, if◌then◌else◌, Result, Ok, Err}
 use Rattle.std.specs.Option.{ok_or}
 use Rattle.std.specs.Fmt.{signed_decimal}
 use Rattle.std.specs.Str.{bytes_eq}
-use Rattle.mr_value.specs.Number.{number_of, is_i64}
+use Rattle.mr_bytes.specs.Number.{number_of, is_i64}
 use Rattle.std.proofs.lemmas.Bool.{ltb-true}
-use Rattle.mr_value.proofs.Numbers.{same_bytes, number_text}
-use Rattle.mr_words.specs.Names.{lowered}
-use Rattle.mr_words.specs.Parts.{with, integer, not_below_1}
+use Rattle.mr_bytes.proofs.Numbers.{same_bytes, number_text}
+use Rattle.mr_arguments.specs.Names.{lowered}
+use Rattle.mr_arguments.specs.Parts.{with, integer, not_below_1}
 use Rattle.mr_cmd_key.specs.Parts.{positive, positive_if_any, cursor_at, cursor_of, timing_text, timing_of, expiring, key_expiry}
 use Rattle.mr_expiry.specs.Expiry.{within_limit, said}
 use Rattle.mr_cmd_key.specs.Options.{expire_text, scan_text, is_expire_condition, all_expire_conditions, expire_condition, condition_if_any, scan_option}
-use Rattle.mr_words.specs.Spelling.{IsPart, IsPositive, AreParts}
+use Rattle.mr_arguments.specs.Spelling.{IsPart, IsPositive, AreParts}
 use Rattle.mr_cmd_key.specs.Spelled.{cursor_part, expire_part}
-use Rattle.mr_words.specs.declared.fault.AskFault.{AskFault}
-use Rattle.mr_words.specs.declared.fault.AskFault.TheVariants.{Syntax, Other}
-use Rattle.mr_words.specs.declared.fault.BadValue.TheVariants as bad
+use Rattle.mr_arguments.specs.declared.fault.AskFault.{AskFault}
+use Rattle.mr_arguments.specs.declared.fault.AskFault.TheVariants.{Syntax, Other}
+use Rattle.mr_arguments.specs.declared.fault.BadValue.TheVariants as bad
 use Rattle.mr_expiry.specs.declared.expiry.Expiry.{Expiry}
 use Rattle.mr_expiry.specs.declared.expiry.ExpiryUnit.{ExpiryUnit}
 use Rattle.mr_cmd_key.specs.declared.key_ask.ExpireCondition.{ExpireCondition}

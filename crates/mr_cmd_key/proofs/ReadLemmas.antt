@@ -6,18 +6,18 @@ use Rattle.std.specs.Option.{ok_or}
 use Rattle.std.specs.Str.{bytes_eq}
 use Rattle.std.proofs.lemmas.Bool.{lt-ltb}
 use Rattle.std.proofs.lemmas.Bool.Decides.{nat_tests}
-use Rattle.mr_value.specs.Number.{is_i64}
-use Rattle.mr_value.proofs.Numbers.{number_is}
-use Rattle.mr_words.specs.Options.{added}
-use Rattle.mr_words.specs.Pairing.{are_pairs, paired, pairs_of}
-use Rattle.mr_words.specs.Parts.{with}
-use Rattle.mr_words.specs.Spelling.{Part, Word, Number, Keyword, IsPart, IsPositive, AreParts, in_a_row}
-use Rattle.mr_words.proofs.OrderLemmas.{second_refused}
-use Rattle.mr_words.proofs.OrderedLemmas.{any_order}
-use Rattle.mr_words.proofs.ReadLemmas.{from_one, literals, one_part, two_first, two_parts, first_part}
-use Rattle.mr_words.specs.declared.name.Name.{Name}
-use Rattle.mr_words.specs.declared.fault.AskFault.{AskFault}
-use Rattle.mr_words.specs.declared.fault.AskFault.TheVariants.{Syntax}
+use Rattle.mr_bytes.specs.Number.{is_i64}
+use Rattle.mr_bytes.proofs.Numbers.{number_is}
+use Rattle.mr_arguments.specs.Options.{added}
+use Rattle.mr_arguments.specs.Pairing.{are_pairs, paired, pairs_of}
+use Rattle.mr_arguments.specs.Parts.{with}
+use Rattle.mr_arguments.specs.Spelling.{Part, Word, Number, Keyword, IsPart, IsPositive, AreParts, in_a_row}
+use Rattle.mr_arguments.proofs.OrderLemmas.{second_refused}
+use Rattle.mr_arguments.proofs.OrderedLemmas.{any_order}
+use Rattle.mr_arguments.proofs.ReadLemmas.{from_one, literals, one_part, two_first, two_parts, first_part}
+use Rattle.mr_arguments.specs.declared.name.Name.{Name}
+use Rattle.mr_arguments.specs.declared.fault.AskFault.{AskFault}
+use Rattle.mr_arguments.specs.declared.fault.AskFault.TheVariants.{Syntax}
 use Rattle.mr_expiry.specs.Askable.{IsAmount}
 use Rattle.mr_expiry.specs.Expiry.{number_said, unit_said}
 use Rattle.mr_cmd_key.specs.Arguments.{clear, expire, scan}

@@ -3,15 +3,15 @@ use Rattle.std.proofs.Common.{ℕ, ◌≡◌, List, [], ◌∷◌, ◌++◌, Boo
 use Rattle.std.specs.Prelude.{if◌then◌else◌, Result, Ok, Err}
 use Rattle.std.specs.Option.{is_some, ok_or}
 use Rattle.std.specs.Str.{bytes_eq}
-use Rattle.mr_words.specs.Names.{lowered}
-use Rattle.mr_words.specs.Parts.{with}
-use Rattle.mr_words.proofs.PairLemmas.{are_pairs-unpaired, paired-unpaired}
-use Rattle.mr_words.proofs.OrderLemmas.{exchanged, OnlySyntax, words_alike, two_alike, twice_refused, one_of_three, unless, only_found}
-use Rattle.mr_words.specs.Pairing.{paired, pairs_of, unpaired}
-use Rattle.mr_words.specs.Options.{added}
+use Rattle.mr_arguments.specs.Names.{lowered}
+use Rattle.mr_arguments.specs.Parts.{with}
+use Rattle.mr_arguments.proofs.PairLemmas.{are_pairs-unpaired, paired-unpaired}
+use Rattle.mr_arguments.proofs.OrderLemmas.{exchanged, OnlySyntax, words_alike, two_alike, twice_refused, one_of_three, unless, only_found}
+use Rattle.mr_arguments.specs.Pairing.{paired, pairs_of, unpaired}
+use Rattle.mr_arguments.specs.Options.{added}
 use Rattle.mr_cmd_key.specs.Options.{scan_text, scan_option, no_scan_options, scan_also, scan_pair, scan_options}
-use Rattle.mr_words.specs.declared.fault.AskFault.{AskFault}
-use Rattle.mr_words.specs.declared.fault.AskFault.TheVariants.{Syntax}
+use Rattle.mr_arguments.specs.declared.fault.AskFault.{AskFault}
+use Rattle.mr_arguments.specs.declared.fault.AskFault.TheVariants.{Syntax}
 use Rattle.mr_cmd_key.specs.declared.options.ScanOption.{ScanOption}
 use Rattle.mr_cmd_key.specs.declared.options.ScanOption.TheVariants as scan
 use Rattle.mr_cmd_key.specs.declared.options.ScanOptions.{ScanOptions}

@@ -1,10 +1,10 @@
 -- The faults that the arguments of SCAN, of EXPIRE and its kin, and of FLUSHALL have, each taken by itself.
 use Rattle.std.specs.Prelude.{ℕ, List, [], ◌∷◌, ◌++◌, Option, Some, None, Result, Ok, Err}
-use Rattle.mr_words.specs.FaultOrder.{in_reading}
+use Rattle.mr_arguments.specs.FaultOrder.{in_reading}
 use Rattle.mr_cmd_key.specs.Options.{condition_if_any, scan_options}
 use Rattle.mr_cmd_key.specs.Parts.{cursor_of, key_expiry, positive_if_any, timing_of}
-use Rattle.mr_words.specs.declared.fault.AskFault.{AskFault}
-use Rattle.mr_words.specs.declared.fault.AskFault.TheVariants.{Syntax}
+use Rattle.mr_arguments.specs.declared.fault.AskFault.{AskFault}
+use Rattle.mr_arguments.specs.declared.fault.AskFault.TheVariants.{Syntax}
 use Rattle.mr_expiry.specs.declared.expiry.ExpiryUnit.{ExpiryUnit}
 use Rattle.mr_cmd_key.specs.declared.options.ScanOptions.{ScanOptions}
 

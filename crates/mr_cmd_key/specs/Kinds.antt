@@ -5,7 +5,7 @@ use Rattle.mr_resp.specs.Replies.{Tree}
 use Rattle.mr_entries.specs.declared.value.Value.{Value}
 use Rattle.mr_entries.specs.declared.value.Value.TheVariants as value
 use Rattle.mr_entries.specs.declared.value.Entry.{Entry}
-use Rattle.mr_planning.specs.Answered.{Answered, kept}
+use Rattle.mr_room.specs.Answered.{Answered, kept}
 
 -- TYPE key: the kind of its value
 abbrev pub kind_name : Value → Tree

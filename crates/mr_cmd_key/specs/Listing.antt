@@ -10,7 +10,7 @@ use Rattle.mr_data.specs.Dataset.{live}
 use Rattle.mr_entries.specs.declared.value.Value.{Value}
 use Rattle.mr_entries.specs.declared.value.Value.TheVariants as value
 use Rattle.mr_entries.specs.declared.value.Entry.{Entry}
-use Rattle.mr_planning.specs.Outcomes.{Outcome, answered}
+use Rattle.mr_room.specs.Outcomes.{Outcome, answered}
 use Rattle.mr_glob.specs.Glob.{glob_matches}
 use Rattle.mr_cmd_key.specs.declared.key_ask.Cursor.{Cursor}
 use Rattle.mr_cmd_key.specs.declared.key_ask.Cursor.TheVariants as cursor

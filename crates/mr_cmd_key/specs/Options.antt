@@ -1,13 +1,13 @@
 -- The options of SCAN, which stand in any order, each at most once, and the one of EXPIRE.
-use Rattle.mr_words.specs.Options.{added}
+use Rattle.mr_arguments.specs.Options.{added}
 use Rattle.std.specs.Prelude.{ℕ, List, [], ◌∷◌, Bool, if◌then◌else◌, Option, Some, None, Result, Ok, Err, codes, find}
 use Rattle.std.specs.Option.{is_some, ok_or}
 use Rattle.std.specs.Str.{bytes_eq}
-use Rattle.mr_words.specs.Names.{lowered}
-use Rattle.mr_words.specs.Pairing.{pairs_of}
-use Rattle.mr_words.specs.Parts.{with}
-use Rattle.mr_words.specs.declared.fault.AskFault.{AskFault}
-use Rattle.mr_words.specs.declared.fault.AskFault.TheVariants.{Syntax}
+use Rattle.mr_arguments.specs.Names.{lowered}
+use Rattle.mr_arguments.specs.Pairing.{pairs_of}
+use Rattle.mr_arguments.specs.Parts.{with}
+use Rattle.mr_arguments.specs.declared.fault.AskFault.{AskFault}
+use Rattle.mr_arguments.specs.declared.fault.AskFault.TheVariants.{Syntax}
 use Rattle.mr_cmd_key.specs.declared.key_ask.ExpireCondition.{ExpireCondition}
 use Rattle.mr_cmd_key.specs.declared.key_ask.ExpireCondition.TheVariants as expire
 use Rattle.mr_cmd_key.specs.declared.options.ScanOption.{ScanOption}

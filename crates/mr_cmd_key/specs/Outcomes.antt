@@ -5,8 +5,8 @@ use Rattle.mr_map.specs.Bytes.{Bytes}
 use Rattle.mr_resp.specs.Replies as reply
 use Rattle.mr_entries.specs.Dataset.{Dataset}
 use Rattle.mr_data.specs.Dataset.{live}
-use Rattle.mr_planning.specs.Keys.{chosen, without, dels}
-use Rattle.mr_planning.specs.Outcomes.{Outcome, answered}
+use Rattle.mr_room.specs.Keys.{chosen, without, dels}
+use Rattle.mr_room.specs.Outcomes.{Outcome, answered}
 
 -- DEL key [key ..], UNLINK the same: those that are there go, and are counted
 abbrev pub deleted : List Bytes → Dataset → Outcome

@@ -1,15 +1,15 @@
 -- What single arguments say.
-use Rattle.mr_words.specs.Parts.{with, integer, not_below_1}
+use Rattle.mr_arguments.specs.Parts.{with, integer, not_below_1}
 use Rattle.std.specs.Prelude.{ℕ, zero, suc, ℤ, pos, negsuc, List, [], Bool, if◌then◌else◌, Option, Some, None, Result, Ok, Err, codes}
 use Rattle.std.specs.Option.{ok_or}
 use Rattle.std.specs.Str.{bytes_eq}
-use Rattle.mr_value.specs.Number.{number_of}
-use Rattle.mr_words.specs.Names.{lowered}
-use Rattle.mr_words.specs.declared.fault.AskFault.{AskFault}
-use Rattle.mr_words.specs.declared.fault.AskFault.TheVariants.{Syntax, Other}
-use Rattle.mr_words.specs.declared.fault.BadValue.TheVariants as bad
-use Rattle.mr_words.specs.declared.fault.ExpiringCommand.{ExpiringCommand}
-use Rattle.mr_words.specs.declared.fault.ExpiringCommand.TheVariants.{Expire, PExpire, ExpireAt, PExpireAt}
+use Rattle.mr_bytes.specs.Number.{number_of}
+use Rattle.mr_arguments.specs.Names.{lowered}
+use Rattle.mr_arguments.specs.declared.fault.AskFault.{AskFault}
+use Rattle.mr_arguments.specs.declared.fault.AskFault.TheVariants.{Syntax, Other}
+use Rattle.mr_arguments.specs.declared.fault.BadValue.TheVariants as bad
+use Rattle.mr_arguments.specs.declared.fault.ExpiringCommand.{ExpiringCommand}
+use Rattle.mr_arguments.specs.declared.fault.ExpiringCommand.TheVariants.{Expire, PExpire, ExpireAt, PExpireAt}
 use Rattle.mr_expiry.specs.declared.expiry.Expiry.{Expiry}
 use Rattle.mr_expiry.specs.declared.expiry.ExpiryUnit.{ExpiryUnit}
 use Rattle.mr_expiry.specs.declared.expiry.ExpiryUnit.TheVariants as unit

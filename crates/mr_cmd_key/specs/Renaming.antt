@@ -9,8 +9,8 @@ use Rattle.mr_effect.specs.declared.effect.Effect.{Effect}
 use Rattle.mr_effect.specs.declared.effect.Effect.TheVariants as effect
 use Rattle.mr_entries.specs.Dataset.{Dataset}
 use Rattle.mr_entries.specs.declared.value.Entry.{Entry}
-use Rattle.mr_planning.specs.Answered.{done}
-use Rattle.mr_planning.specs.Outcomes.{Outcome, answered}
+use Rattle.mr_room.specs.Answered.{done}
+use Rattle.mr_room.specs.Outcomes.{Outcome, answered}
 
 abbrev pub no_key : Tree
 no_key = reply.error (codes "ERR no such key")

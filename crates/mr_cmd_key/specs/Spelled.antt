@@ -1,6 +1,6 @@
 -- The words that a command on keys is spelled by.
 use Rattle.std.specs.Prelude.{◌≡◌, ℕ, pos, List, [], ◌∷◌, ◌++◌, map, Option, Some, None, option_map, IfSome}
-use Rattle.mr_words.specs.Spelling.{Part, Word, Number, Keyword, Positive, IsPositive, AreParts, AreWithOptions, NameAndArguments}
+use Rattle.mr_arguments.specs.Spelling.{Part, Word, Number, Keyword, Positive, IsPositive, AreParts, AreWithOptions, NameAndArguments}
 use Rattle.mr_cmd_key.specs.Carried.{key_words}
 use Rattle.mr_cmd_key.specs.Parts.{timing_text, kind_of}
 use Rattle.mr_expiry.specs.Expiry.{number_said}
@@ -14,7 +14,7 @@ use Rattle.mr_cmd_key.specs.declared.key_ask.KindName.{KindName}
 use Rattle.mr_cmd_key.specs.declared.key_ask.Timing.{Timing}
 use Rattle.mr_cmd_key.specs.declared.key_ask.KeyAsk.{KeyAsk}
 use Rattle.mr_cmd_key.specs.declared.key_ask.KeyAsk.TheVariants as key
-use Rattle.mr_words.specs.declared.name.Name.{Name}
+use Rattle.mr_arguments.specs.declared.name.Name.{Name}
 use Rattle.mr_cmd_key.specs.Called.{key_name}
 
 -- where a scan goes on

@@ -6,7 +6,7 @@ ghost use Rattle.mr_data.specs.Dataset.{live};
 ghost use Rattle.mr_cmd_key.specs.Outcomes.{present_at};
 
 use mr_data::{Dataset, Given};
-use mr_planning::see;
+use mr_room::see;
 use std::borrow::CowSlice;
 
 /// Whether a key is there and not expired.

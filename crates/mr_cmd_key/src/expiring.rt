@@ -2,15 +2,15 @@
 ghost use Rattle.std.specs.Prelude.{◌≡◌, ◌≤ℤ◌, ◌^◌, pos, IfOk, IfSome, option_copied};
 ghost use Rattle.mr_resp.specs.ReplyView.{view};
 ghost use Rattle.mr_data.specs.Dataset.{IsLifetime};
-ghost use Rattle.mr_planning.specs.Answered.{Takes};
+ghost use Rattle.mr_room.specs.Answered.{Takes};
 ghost use Rattle.mr_cmd_key.specs.Expiring.{allows, deadline_in, expire_answer, in_seconds, is_until, lifetime_in, persist_answer, answered_in};
 
 use crate::key_ask::ExpireCondition;
+use mr_arguments::Argument;
+use mr_bytes::Word;
 use mr_data::{Effect, Entry, Given};
-use mr_planning::{Effects, count};
 use mr_resp::Reply;
-use mr_value::Word;
-use mr_words::Argument;
+use mr_room::{Effects, count};
 use std::alloc::{AllocError, Global};
 
 /// `EXPIRE` and its kin

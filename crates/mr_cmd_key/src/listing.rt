@@ -1,5 +1,6 @@
 // Commands that go over all keys of a dataset. Expired ones are passed over.
-ghost use Rattle.std.specs.Prelude.{◌≡◌, IfOk, option_copied};
+ghost use Rattle.std.specs.Prelude.{◌≡◌, IfOk, filter, option_copied};
+ghost use Rattle.std.specs.FinMap.{keys};
 ghost use Rattle.mr_resp.specs.ReplyView.{view};
 ghost use Rattle.mr_cmd_key.specs.Listing.{is_matched, is_listed_at, listed_at, bulks, scan_reply, from_cursor};
 
@@ -7,12 +8,42 @@ use crate::key_ask::{Cursor, KindName};
 use crate::kinds::is_of_kind;
 use mr_data::{Dataset, Given};
 use mr_glob::glob;
-use mr_planning::{bulk, see};
 use mr_resp::Reply;
+use mr_room::{bulk, is_all_live, see};
 use std::alloc::{AllocError, Global};
 
 /// The keys that match and are of the kind, in byte order.
 pub fn list_keys(
+    alloc: Global,
+    held: &Dataset,
+    pattern: Option<&[u8]>,
+    kind: Option<KindName>,
+    given: Given,
+) -> Result<Reply, AllocError>
+    ensures { IfOk result (λ r. view r ≡ bulks (listed_at given.now (option_copied pattern.entry) kind held.now)) }
+{
+    // to look each of the keys up takes longer than all else
+    if kind.is_none() && is_all_live(held, given) {
+        return list_matched(alloc, held, pattern);
+    }
+    list_seen(alloc, held, pattern, kind, given)
+}
+
+/// The keys that match, expired ones too, in byte order. None of them is looked up.
+fn list_matched(alloc: Global, held: &Dataset, pattern: Option<&[u8]>) -> Result<Reply, AllocError>
+    ensures { IfOk result (λ r. view r ≡ bulks (filter (is_matched (option_copied pattern.entry)) (keys held.now))) }
+{
+    let mut replies = Vec::new(alloc);
+    for key in held.keys() {
+        if is_matched(pattern, key) {
+            replies.push(bulk(alloc, key)?)?;
+        }
+    }
+    Ok(Reply::Array(replies))
+}
+
+/// The keys that match and are of the kind, in byte order. Each that matches is looked up.
+fn list_seen(
     alloc: Global,
     held: &Dataset,
     pattern: Option<&[u8]>,

@@ -2,11 +2,11 @@
 ghost use Rattle.std.specs.Prelude.{◌≡◌, Some, Err, find, map};
 ghost use Rattle.std.specs.Cow.{cow_slice_items};
 ghost use Rattle.std.specs.Str.{bytes_eq};
-ghost use Rattle.mr_words.specs.Names.{lowered};
+ghost use Rattle.mr_arguments.specs.Names.{lowered};
 ghost use Rattle.mr_cmd_key.specs.Options.{expire_condition, is_expire_condition, condition_if_any, scan_text, scan_option, no_scan_options, scan_also, scan_options};
 
 use crate::key_ask::ExpireCondition;
-use mr_words::{Argument, Arguments, AskFault, Pairs};
+use mr_arguments::{Argument, Arguments, AskFault, Pairs};
 
 impl ExpireCondition {
     /// The condition that a word is, in any case.

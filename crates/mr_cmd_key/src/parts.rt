@@ -3,15 +3,15 @@ ghost use Rattle.std.specs.Prelude.{◌≡◌};
 ghost use Rattle.std.specs.Cow.{cow_slice_items};
 ghost use Rattle.std.specs.Option.{option_map};
 ghost use Rattle.std.specs.Str.{bytes_eq};
-ghost use Rattle.mr_words.specs.Names.{lowered};
-ghost use Rattle.mr_words.specs.Parts.{not_below_1};
+ghost use Rattle.mr_arguments.specs.Names.{lowered};
+ghost use Rattle.mr_arguments.specs.Parts.{not_below_1};
 ghost use Rattle.mr_cmd_key.specs.Parts.{positive, positive_if_any, cursor_at, cursor_of, timing_of, timing_text, is_kind, kind_of, expiring, key_expiry};
 ghost use Rattle.mr_expiry.specs.Expiry.{within_limit};
 
 use crate::key_ask::{Cursor, KindName, Timing};
+use mr_arguments::{Argument, AskFault, BadValue, ExpiringCommand, integer, not_below_1};
+use mr_bytes::read_i64;
 use mr_expiry::{Expiry, ExpiryUnit, within_limit};
-use mr_value::read_i64;
-use mr_words::{Argument, AskFault, BadValue, ExpiringCommand, integer, not_below_1};
 use std::borrow::CowSlice;
 
 /// A number from 1 on, where there is one.

@@ -1,12 +1,12 @@
 // The plan of a command on keys, whatever they hold.
-ghost use Rattle.std.specs.Prelude.{◌≡◌, IfOk, IsTrue, option_copied};
+ghost use Rattle.std.specs.Prelude.{◌≡◌, [], ◌∷◌, IfOk, IsTrue, option_copied};
 ghost use Rattle.std.specs.List.{list_all};
-ghost use Rattle.mr_value.specs.Words.{fits};
+ghost use Rattle.mr_bytes.specs.Words.{fits};
 ghost use Rattle.mr_resp.specs.ReplyView.{view};
 ghost use Rattle.mr_data.specs.Dataset.{seen};
 ghost use Rattle.mr_cmd_key.specs.Carried.{key_words};
 ghost use Rattle.mr_expiry.specs.Expiry.{deadline_at};
-ghost use Rattle.mr_planning.specs.Commands.{IsPlan, Plans, IsFaithful, HasCommandTexts, on_key, on_keys, on_none};
+ghost use Rattle.mr_room.specs.Commands.{IsPlan, Plans, IsFaithful, HasCommandTexts, on_key, on_keys, on_none};
 ghost use Rattle.mr_cmd_key.specs.Commands.{command, HasDeadline};
 ghost use Rattle.mr_cmd_key.specs.Kinds.{type_answer};
 ghost use Rattle.mr_cmd_key.specs.Expiring.{expire_answer, persist_answer, deadline_answer};
@@ -19,11 +19,12 @@ use crate::expiring::DeadlineForm;
 use crate::key_ask::{Cursor, ExpireCondition, KeyAsk, KindName};
 use crate::renaming::{rename, renamenx};
 use crate::{expiring, kinds, listing};
+use mr_arguments::{Argument, Words};
+use mr_bytes::Word;
 use mr_data::{Dataset, Effect, Given, Plan};
 use mr_expiry::Expiry;
-use mr_planning::{Effects, count, done, integer, look, push_dels};
 use mr_resp::Reply;
-use mr_words::{Argument, Words};
+use mr_room::{Effects, count, done, integer, look, push_dels};
 use std::alloc::{AllocError, Global};
 
 /// What a command on keys is answered, and its effects. The dataset isn't changed, and the plan owns what it holds.
@@ -144,9 +145,32 @@ fn delete(
 ) -> Result<Reply, AllocError>
     ensures { IfOk result (λ r. Plans (on_keys keys.now (deleted keys.now)) given.now held.now (view r) effects.old effects.new) }
 {
+    if let [only] = keys.as_slice() {
+        return delete_one(alloc, held, &Argument::of(only), given, effects);
+    }
     push_dels(alloc, held, keys, given, true, effects)?;
     let count = push_dels(alloc, held, keys, given, false, effects)?;
     Ok(integer(count))
+}
+
+/// What `DEL` and `UNLINK` of one key are answered. It is looked up once.
+fn delete_one(
+    alloc: Global,
+    held: &Dataset,
+    key: &Argument<'_>,
+    given: Given,
+    effects: &mut Effects,
+) -> Result<Reply, AllocError>
+    ensures { IfOk result (λ r. Plans (on_keys (key.now ∷ []) (deleted (key.now ∷ []))) given.now held.now (view r) effects.old effects.new) }
+{
+    let live_entry = look(alloc, held, key, given, effects)?;
+    if live_entry.is_none() {
+        return Ok(integer(0));
+    }
+    effects.push(Effect::Del {
+        key: Word::copied(alloc, key.as_slice())?,
+    })?;
+    Ok(integer(1))
 }
 
 /// What `EXISTS` is answered. The DELs of expired keys are put behind the effects that are there.
@@ -159,9 +183,26 @@ fn exists(
 ) -> Result<Reply, AllocError>
     ensures { IfOk result (λ r. Plans (on_keys keys.now (counted keys.now)) given.now held.now (view r) effects.old effects.new) }
 {
+    if let [only] = keys.as_slice() {
+        return exists_one(alloc, held, &Argument::of(only), given, effects);
+    }
     push_dels(alloc, held, keys, given, true, effects)?;
     let present = count_present(held, keys.as_slice(), given);
     Ok(count(present))
+}
+
+/// What `EXISTS` of one key is answered. It is looked up once.
+fn exists_one(
+    alloc: Global,
+    held: &Dataset,
+    key: &Argument<'_>,
+    given: Given,
+    effects: &mut Effects,
+) -> Result<Reply, AllocError>
+    ensures { IfOk result (λ r. Plans (on_keys (key.now ∷ []) (counted (key.now ∷ []))) given.now held.now (view r) effects.old effects.new) }
+{
+    let live_entry = look(alloc, held, key, given, effects)?;
+    Ok(count(usize::from(live_entry.is_some())))
 }
 
 /// What `TYPE` is answered. The DEL of an expired key is put behind the effects that are there.

@@ -5,15 +5,15 @@ ghost use Rattle.std.specs.Str.{bytes_eq};
 ghost use Rattle.mr_resp.specs.ReplyView.{view};
 ghost use Rattle.mr_data.specs.Dataset.{live};
 ghost use Rattle.mr_entries.specs.Dataset.{Dataset as Map};
-ghost use Rattle.mr_planning.specs.Keys.{dels, expired};
-ghost use Rattle.mr_planning.specs.Commands.{Plans, on_keys};
+ghost use Rattle.mr_room.specs.Keys.{dels, expired};
+ghost use Rattle.mr_room.specs.Commands.{Plans, on_keys};
 ghost use Rattle.mr_cmd_key.specs.Renaming.{Gives, carried_if, no_key, renamed, renamed_nx};
 
+use mr_arguments::Argument;
+use mr_bytes::Word;
 use mr_data::{Dataset, Effect, Entry, Given};
-use mr_planning::{Effects, count, done, look};
 use mr_resp::Reply;
-use mr_value::Word;
-use mr_words::Argument;
+use mr_room::{Effects, count, done, look};
 use std::alloc::{AllocError, Global};
 use std::borrow::CowSlice;
 

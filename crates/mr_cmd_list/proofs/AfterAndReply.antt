@@ -8,10 +8,10 @@ use Rattle.std.proofs.lemmas.Bool.{ne_eqb}
 use Rattle.std.proofs.lemmas.Int.{ints}
 use Rattle.std.proofs.lemmas.List.{reverse-append, length-reverse, take_all, drop_all}
 use Rattle.mr_map.specs.Bytes.{Bytes}
-use Rattle.mr_value.specs.Window.{named_place, window_of, windowed}
-use Rattle.mr_value.specs.declared.ends.End.{End}
-use Rattle.mr_value.specs.declared.ends.End.TheVariants.{Left, Right}
-use Rattle.mr_value.proofs.Places.{from_front, past_end, from_end}
+use Rattle.mr_bytes.specs.Window.{named_place, window_of, windowed}
+use Rattle.mr_bytes.specs.declared.ends.End.{End}
+use Rattle.mr_bytes.specs.declared.ends.End.TheVariants.{Left, Right}
+use Rattle.mr_bytes.proofs.Places.{from_front, past_end, from_end}
 use Rattle.mr_resp.specs.Replies as reply
 use Rattle.mr_resp.specs.Replies.{Tree}
 use Rattle.mr_entries.specs.Collections.{put_item, pushed, popped, end_item}
@@ -22,9 +22,9 @@ use Rattle.mr_entries.specs.declared.value.Entry.{Entry}
 use Rattle.mr_entries.proofs.Ends.{no_end}
 use Rattle.mr_entries.proofs.Puts.{get_put}
 use Rattle.mr_cmd_list.specs.declared.list_ask.PushTo.TheVariants.{AnyKey, ExistingKey}
-use Rattle.mr_planning.specs.Collections.{replied, changed}
-use Rattle.mr_planning.specs.Outcomes.{at_key}
-use Rattle.mr_planning.specs.Answered.{wrong_kind}
+use Rattle.mr_room.specs.Collections.{replied, changed}
+use Rattle.mr_room.specs.Outcomes.{at_key}
+use Rattle.mr_room.specs.Answered.{wrong_kind}
 use Rattle.mr_cmd_list.specs.Laws.{PushAnswersLength, PushIsRead, PopTakesTheEnd, MoveTakesTheEnd, MovePutsAtTheEnd, with_pushed, end_index}
 use Rattle.mr_cmd_list.specs.Lists.{of_list, item_reply, items_reply}
 use Rattle.mr_cmd_list.specs.Moves.{rotate_answer, with_rotated, carry, carry_from, carry_to, carry_item, carried}

@@ -2,17 +2,17 @@
 use Rattle.std.proofs.Common.{ℕ, ◌≡◌, List, [], ◌∷◌, refl, Option, Some, None}
 use Rattle.std.specs.Prelude.{IsTrue, IfOk}
 use Rattle.std.specs.List.{list_all}
-use Rattle.mr_value.specs.Words.{fits}
-use Rattle.mr_value.specs.declared.ends.End.{End}
+use Rattle.mr_bytes.specs.Words.{fits}
+use Rattle.mr_bytes.specs.declared.ends.End.{End}
 use Rattle.mr_cmd_list.specs.Arguments.{push, pop, llen, lrange, lindex, lset, linsert, lrem, ltrim, lmove, rpoplpush}
 use Rattle.mr_cmd_list.specs.Called.{list_name}
 use Rattle.mr_cmd_list.specs.Carried.{list_words}
-use Rattle.mr_words.proofs.FitLemmas.{all_words, carried, carried-words, of_parts_fit}
+use Rattle.mr_arguments.proofs.FitLemmas.{all_words, carried, carried-words, of_parts_fit}
 use Rattle.mr_cmd_list.specs.Spelled.{list_parts, ListSpells}
-use Rattle.mr_words.proofs.PartLemmas.{with_count, with_integer}
+use Rattle.mr_arguments.proofs.PartLemmas.{with_count, with_integer}
 use Rattle.mr_cmd_list.proofs.PartLemmas.{with_end, with_side}
-use Rattle.mr_words.specs.declared.name.Name.{Name}
-use Rattle.mr_words.specs.declared.name.Name.TheVariants as name
+use Rattle.mr_arguments.specs.declared.name.Name.{Name}
+use Rattle.mr_arguments.specs.declared.name.Name.TheVariants as name
 use Rattle.mr_cmd_list.specs.declared.list_ask.ListAsk.{ListAsk}
 use Rattle.mr_cmd_list.specs.declared.list_ask.ListAsk.TheVariants as list
 use Rattle.mr_cmd_list.specs.declared.list_ask.PushTo.{PushTo}

@@ -8,11 +8,11 @@ use Rattle.std.proofs.lemmas.List.{length-append, length-take, length-drop, take
 use Rattle.std.proofs.lemmas.List.Sums.{sum_by-cons}
 use Rattle.std.proofs.lemmas.Option.{slice_get-get_or, get_or_from_slice_get}
 use Rattle.mr_map.specs.Bytes.{Bytes}
-use Rattle.mr_value.specs.Words.{fits}
-use Rattle.mr_value.specs.Number.{is_i64}
+use Rattle.mr_bytes.specs.Words.{fits}
+use Rattle.mr_bytes.specs.Number.{is_i64}
 use Rattle.mr_value.specs.Lists.{count_of, without, without_first, without_last, without_all, removed_count}
-use Rattle.mr_value.specs.Window.{named_place, window_of}
-use Rattle.mr_value.specs.declared.ends.Side.{Side}
+use Rattle.mr_bytes.specs.Window.{named_place, window_of}
+use Rattle.mr_bytes.specs.declared.ends.Side.{Side}
 use Rattle.mr_value.proofs.Removals.{length-without}
 use Rattle.mr_entries.specs.Collections.{is_place_of, is_part_of, place_beside}
 use Rattle.mr_entries.specs.Steps.{lists, held, set_item_step, insert_item_step, remove_items_step, trim_step, del_step}
@@ -20,7 +20,7 @@ use Rattle.mr_entries.specs.Changes.{change}
 use Rattle.mr_entries.specs.declared.value.Entry.{Entry}
 use Rattle.mr_effect.specs.declared.effect.Effect.TheVariants as effect
 use Rattle.mr_data.proofs.Running.{IsStep}
-use Rattle.mr_planning.proofs.Changing.{IsFaithfulChange}
+use Rattle.mr_room.proofs.Changing.{IsFaithfulChange}
 use Rattle.mr_cmd_list.specs.Edits.{is_item, with_item, with_inserted, without_equal, is_whole, trimmed}
 use Rattle.mr_cmd_list.proofs.Sizes.{not_both, both, three, small, positive, none_of, same_bytes, bytes_itself, place_within, window_within}
 use Rattle.mr_cmd_list.proofs.OneEffect.{no_effect, by_step, one_effect, unless_same}

@@ -6,9 +6,9 @@ use Rattle.std.specs.FinMap.{get}
 use Rattle.std.specs.Str.{bytes_eq}
 use Rattle.std.proofs.Math.Nat.{min-le_right}
 use Rattle.mr_map.specs.Bytes.{Bytes}
-use Rattle.mr_value.specs.Words.{fits}
-use Rattle.mr_value.specs.declared.ends.End.{End}
-use Rattle.mr_value.specs.declared.ends.End.TheVariants.{Left, Right}
+use Rattle.mr_bytes.specs.Words.{fits}
+use Rattle.mr_bytes.specs.declared.ends.End.{End}
+use Rattle.mr_bytes.specs.declared.ends.End.TheVariants.{Left, Right}
 use Rattle.mr_entries.specs.Dataset.{Dataset}
 use Rattle.mr_data.specs.Dataset.{IsDataset, is_expired, live}
 use Rattle.mr_entries.specs.Steps.{lists, held, list_of}
@@ -20,14 +20,14 @@ use Rattle.mr_cmd_list.specs.declared.list_ask.ListAsk.{ListAsk}
 use Rattle.mr_cmd_list.specs.declared.list_ask.ListAsk.TheVariants as ask
 use Rattle.mr_cmd_list.specs.declared.list_ask.PushTo.{PushTo}
 use Rattle.mr_cmd_list.specs.declared.list_ask.PushTo.TheVariants.{AnyKey, ExistingKey}
-use Rattle.mr_planning.specs.Taken.{has}
-use Rattle.mr_planning.specs.Keys.{purged}
-use Rattle.mr_planning.specs.Answered.{Answered}
-use Rattle.mr_planning.specs.Outcomes.{at_key}
-use Rattle.mr_planning.specs.Commands.{on_key}
-use Rattle.mr_planning.proofs.KeyLists.{get_purged}
-use Rattle.mr_planning.proofs.PlanLemmas.{purged_at}
-use Rattle.mr_planning.proofs.Laws.{faithful, IsFaithfulAt, IsFaithfulAnswer, at_key_faithful, IsLawful}
+use Rattle.mr_room.specs.Taken.{has}
+use Rattle.mr_room.specs.Keys.{purged}
+use Rattle.mr_room.specs.Answered.{Answered}
+use Rattle.mr_room.specs.Outcomes.{at_key}
+use Rattle.mr_room.specs.Commands.{on_key}
+use Rattle.mr_room.proofs.KeyLists.{get_purged}
+use Rattle.mr_room.proofs.PlanLemmas.{purged_at}
+use Rattle.mr_room.proofs.Laws.{faithful, IsFaithfulAt, IsFaithfulAnswer, at_key_faithful, IsLawful}
 use Rattle.mr_data.proofs.KindLaws.{lists_kept}
 use Rattle.mr_cmd_list.specs.Numbers.{HasFewItems, IsShort, IsShortFor, IsNumberFor, HasNumbersIn}
 use Rattle.mr_cmd_list.specs.Pushes.{push_change, push_answer}

@@ -10,11 +10,11 @@ use Rattle.mr_data.specs.Dataset.{IsDataset}
 use Rattle.mr_entries.specs.Steps.{Step, lists, held, entry_of, deadline_of, on}
 use Rattle.mr_entries.specs.declared.value.Entry.{Entry}
 use Rattle.mr_effect.specs.declared.effect.Effect.{Effect}
-use Rattle.mr_planning.specs.Collections.{Change, telling, changing}
-use Rattle.mr_planning.proofs.Laws.{IsFaithfulAnswer, kept_faithful}
+use Rattle.mr_room.specs.Collections.{Change, telling, changing}
+use Rattle.mr_room.proofs.Laws.{IsFaithfulAnswer, kept_faithful}
 use Rattle.mr_data.proofs.Running.{AreSteps, IsStep, run}
 use Rattle.mr_data.proofs.KindLaws.{lists_are, lists_kept}
-use Rattle.mr_planning.proofs.Changing.{IsFaithfulChange, changing_faithful, telling_faithful}
+use Rattle.mr_room.proofs.Changing.{IsFaithfulChange, changing_faithful, telling_faithful}
 use Rattle.mr_cmd_list.specs.Lists.{of_list, on_list, unless}
 
 -- ---- a list, or an absent key

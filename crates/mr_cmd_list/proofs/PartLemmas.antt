@@ -2,15 +2,15 @@
 use Rattle.std.proofs.Common.{ℕ, ◌≡◌, List, Bool, true, false, refl}
 use Rattle.std.specs.Prelude.{IfOk, if◌then◌else◌, Result, Ok, Err}
 use Rattle.std.specs.Str.{bytes_eq}
-use Rattle.mr_value.proofs.Numbers.{same_bytes}
-use Rattle.mr_value.specs.declared.ends.End.{End}
-use Rattle.mr_value.specs.declared.ends.End.TheVariants.{Left, Right}
-use Rattle.mr_value.specs.declared.ends.Side.{Side}
-use Rattle.mr_value.specs.declared.ends.Side.TheVariants.{Before, After}
-use Rattle.mr_words.specs.Names.{lowered}
-use Rattle.mr_words.specs.Parts.{with}
-use Rattle.mr_words.specs.declared.fault.AskFault.{AskFault}
-use Rattle.mr_words.specs.declared.fault.AskFault.TheVariants.{Syntax}
+use Rattle.mr_bytes.proofs.Numbers.{same_bytes}
+use Rattle.mr_bytes.specs.declared.ends.End.{End}
+use Rattle.mr_bytes.specs.declared.ends.End.TheVariants.{Left, Right}
+use Rattle.mr_bytes.specs.declared.ends.Side.{Side}
+use Rattle.mr_bytes.specs.declared.ends.Side.TheVariants.{Before, After}
+use Rattle.mr_arguments.specs.Names.{lowered}
+use Rattle.mr_arguments.specs.Parts.{with}
+use Rattle.mr_arguments.specs.declared.fault.AskFault.{AskFault}
+use Rattle.mr_arguments.specs.declared.fault.AskFault.TheVariants.{Syntax}
 use Rattle.mr_cmd_list.specs.Parts.{end_text, side_text, end_of, side_of}
 
 pub with_end : {A : Type 0} (w : List ℕ) (next : End → Result A AskFault) (P : A → Type 0)

@@ -2,16 +2,16 @@
 use Rattle.std.proofs.Common.{ℕ, ◌<◌, ◌≤◌, ◌^◌, ◌≡◌, pos, List, length, Option, Some, None, refl, ◌∙◌, ap, arith}
 use Rattle.std.specs.Prelude.{◌==◌, IsTrue, if◌then◌else◌}
 use Rattle.mr_map.specs.Bytes.{Bytes}
-use Rattle.mr_value.specs.Words.{fits}
-use Rattle.mr_value.specs.Number.{is_i64}
-use Rattle.mr_value.specs.declared.ends.End.{End}
+use Rattle.mr_bytes.specs.Words.{fits}
+use Rattle.mr_bytes.specs.Number.{is_i64}
+use Rattle.mr_bytes.specs.declared.ends.End.{End}
 use Rattle.mr_entries.specs.Collections.{may_take, popped, end_item}
 use Rattle.mr_entries.specs.Steps.{lists, held, pop_step}
 use Rattle.mr_entries.specs.Changes.{change}
 use Rattle.mr_entries.specs.declared.value.Entry.{Entry}
 use Rattle.mr_effect.specs.declared.effect.Effect.TheVariants as effect
 use Rattle.mr_data.proofs.Running.{IsStep}
-use Rattle.mr_planning.proofs.Changing.{IsFaithfulChange}
+use Rattle.mr_room.proofs.Changing.{IsFaithfulChange}
 use Rattle.mr_cmd_list.specs.Pops.{without_item, without_items}
 use Rattle.mr_cmd_list.proofs.Sizes.{both, small, positive, none_of, end_some, may_take_some, popped_none, popped_less}
 use Rattle.mr_cmd_list.proofs.OneEffect.{no_effect, one_effect, unless_same}

@@ -7,7 +7,7 @@ use Rattle.mr_map.specs.Bytes.{Bytes}
 use Rattle.mr_resp.specs.Replies as reply
 use Rattle.mr_resp.specs.ReplyView.{view}
 use Rattle.mr_resp.specs.declared.reply.Reply.{Reply}
-use Rattle.mr_value.specs.declared.ends.End.TheVariants.{Left, Right}
+use Rattle.mr_bytes.specs.declared.ends.End.TheVariants.{Left, Right}
 use Rattle.mr_cmd_list.specs.Pops.{taken_items}
 
 module _ (xs : List Bytes) (i : ℕ) (x : Bytes) where

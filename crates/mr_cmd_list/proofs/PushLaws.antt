@@ -3,9 +3,9 @@ use Rattle.std.proofs.Common.{◌+◌, ◌≡◌, List, [], ◌∷◌, length, O
 use Rattle.std.specs.Prelude.{IsTrue, map}
 use Rattle.std.specs.List.{AllByRecursion, list_all}
 use Rattle.mr_map.specs.Bytes.{Bytes}
-use Rattle.mr_value.specs.Words.{fits}
-use Rattle.mr_value.specs.declared.ends.End.{End}
-use Rattle.mr_value.specs.declared.ends.End.TheVariants.{Left, Right}
+use Rattle.mr_bytes.specs.Words.{fits}
+use Rattle.mr_bytes.specs.declared.ends.End.{End}
+use Rattle.mr_bytes.specs.declared.ends.End.TheVariants.{Left, Right}
 use Rattle.mr_entries.specs.Collections.{put_item, pushed}
 use Rattle.mr_entries.specs.Steps.{lists, held, entry_of, deadline_of, push_step}
 use Rattle.mr_entries.specs.declared.value.Entry.{Entry}
@@ -15,7 +15,7 @@ use Rattle.mr_entries.proofs.Cutting.{cut_groups, cut_whole, no_cut}
 use Rattle.mr_data.proofs.Folds.{pushing, push_is_step}
 use Rattle.mr_data.proofs.Running.{steps_of, groups_run}
 use Rattle.mr_data.proofs.KindLaws.{lists_are}
-use Rattle.mr_planning.proofs.Changing.{IsFaithfulChange}
+use Rattle.mr_room.proofs.Changing.{IsFaithfulChange}
 use Rattle.mr_cmd_list.specs.Pushes.{push_effects, push_change}
 
 -- ---- one after another

@@ -7,7 +7,7 @@ use Rattle.std.proofs.Math.ListN.{drop_of_length-le}
 use Rattle.mr_map.specs.Bytes.{Bytes}
 use Rattle.mr_effect.specs.declared.effect.Effect.{Effect}
 use Rattle.mr_effect.specs.declared.effect.Effect.TheVariants as effect
-use Rattle.mr_value.specs.declared.ends.End.{End}
+use Rattle.mr_bytes.specs.declared.ends.End.{End}
 use Rattle.mr_entries.specs.Cuts.{most_items, cut}
 use Rattle.mr_entries.proofs.Cutting.{cut_more}
 use Rattle.mr_cmd_list.specs.Pushes.{push_effects}

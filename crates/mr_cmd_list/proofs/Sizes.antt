@@ -9,11 +9,11 @@ use Rattle.std.proofs.lemmas.List.{length-drop, length-take, take_all}
 use Rattle.std.proofs.lemmas.Option.{slice_get_within}
 use Rattle.std.proofs.lemmas.Slice.Eq.{bytes_eq-Decides}
 use Rattle.mr_map.specs.Bytes.{Bytes}
-use Rattle.mr_value.specs.Number.{is_i64}
-use Rattle.mr_value.specs.Window.{place_of, named_place, window_of}
-use Rattle.mr_value.specs.declared.ends.End.{End}
-use Rattle.mr_value.specs.declared.ends.End.TheVariants.{Left, Right}
-use Rattle.mr_value.proofs.Windows.{in_order}
+use Rattle.mr_bytes.specs.Number.{is_i64}
+use Rattle.mr_bytes.specs.Window.{place_of, named_place, window_of}
+use Rattle.mr_bytes.specs.declared.ends.End.{End}
+use Rattle.mr_bytes.specs.declared.ends.End.TheVariants.{Left, Right}
+use Rattle.mr_bytes.proofs.Windows.{in_order}
 use Rattle.mr_entries.specs.Collections.{may_take, popped, end_item}
 
 pub both : (a b : Bool) → a ≡ true → b ≡ true → a && b ≡ true

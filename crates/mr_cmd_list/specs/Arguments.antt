@@ -1,13 +1,13 @@
 -- Commands on lists.
 use Rattle.std.specs.Prelude.{ℕ, List, [], ◌∷◌, Some, None, Result, Ok, Err}
-use Rattle.mr_words.specs.declared.name.Name.{Name}
-use Rattle.mr_words.specs.declared.name.Name.TheVariants as name
-use Rattle.mr_words.specs.declared.fault.AskFault.{AskFault}
-use Rattle.mr_words.specs.declared.fault.AskFault.TheVariants.{Arity}
+use Rattle.mr_arguments.specs.declared.name.Name.{Name}
+use Rattle.mr_arguments.specs.declared.name.Name.TheVariants as name
+use Rattle.mr_arguments.specs.declared.fault.AskFault.{AskFault}
+use Rattle.mr_arguments.specs.declared.fault.AskFault.TheVariants.{Arity}
 use Rattle.mr_cmd_list.specs.declared.list_ask.ListAsk.{ListAsk}
 use Rattle.mr_cmd_list.specs.declared.list_ask.ListAsk.TheVariants as ask
-use Rattle.mr_value.specs.declared.ends.End.{End}
-use Rattle.mr_words.specs.Parts.{with, integer, count}
+use Rattle.mr_bytes.specs.declared.ends.End.{End}
+use Rattle.mr_arguments.specs.Parts.{with, integer, count}
 use Rattle.mr_cmd_list.specs.Parts.{end_of, side_of}
 use Rattle.mr_cmd_list.specs.declared.list_ask.PushTo.{PushTo}
 

@@ -1,6 +1,6 @@
 -- Which commands on lists words can ask for.
 use Rattle.std.specs.Prelude.{◌≢◌, []}
-use Rattle.mr_words.specs.Askable.{IsI64, IsCount}
+use Rattle.mr_arguments.specs.Askable.{IsI64, IsCount}
 use Rattle.mr_cmd_list.specs.declared.list_ask.ListAsk.{ListAsk}
 use Rattle.mr_cmd_list.specs.declared.list_ask.ListAsk.TheVariants as list
 

@@ -2,16 +2,16 @@
 use Rattle.std.specs.Prelude.{◌≡◌, ◌≢◌, ℤ, pos, negsuc, List, ◌++◌, length, reverse, Option, Some, None}
 use Rattle.std.specs.FinMap.{get}
 use Rattle.mr_map.specs.Bytes.{Bytes}
-use Rattle.mr_value.specs.Window.{window_of, windowed}
-use Rattle.mr_value.specs.declared.ends.End.{End}
-use Rattle.mr_value.specs.declared.ends.End.TheVariants.{Left, Right}
+use Rattle.mr_bytes.specs.Window.{window_of, windowed}
+use Rattle.mr_bytes.specs.declared.ends.End.{End}
+use Rattle.mr_bytes.specs.declared.ends.End.TheVariants.{Left, Right}
 use Rattle.mr_resp.specs.Replies as reply
 use Rattle.mr_entries.specs.Dataset.{Dataset}
 use Rattle.mr_entries.specs.Steps.{lists, held}
 use Rattle.mr_entries.specs.declared.value.Entry.{Entry}
 use Rattle.mr_cmd_list.specs.declared.list_ask.PushTo.{PushTo}
 use Rattle.mr_cmd_list.specs.declared.list_ask.PushTo.TheVariants.{AnyKey}
-use Rattle.mr_planning.specs.Answered.{wrong_kind}
+use Rattle.mr_room.specs.Answered.{wrong_kind}
 use Rattle.mr_cmd_list.specs.Lists.{items_reply}
 use Rattle.mr_cmd_list.specs.Telling.{llen_answer, lrange_answer, lindex_answer}
 use Rattle.mr_cmd_list.specs.Pushes.{push_answer}

@@ -1,7 +1,7 @@
 -- The numbers that the effects of a command carry.
 use Rattle.std.specs.Prelude.{ℕ, ℤ, ◌<◌, ◌^◌, length, IsTrue, Option, Some, None}
 use Rattle.std.specs.FinMap.{get}
-use Rattle.mr_value.specs.Number.{is_i64}
+use Rattle.mr_bytes.specs.Number.{is_i64}
 use Rattle.mr_entries.specs.Dataset.{Dataset}
 use Rattle.mr_data.specs.Dataset.{live}
 use Rattle.mr_entries.specs.declared.value.Value.{Value}

@@ -1,13 +1,13 @@
 -- What single arguments say.
 use Rattle.std.specs.Prelude.{ℕ, List, if◌then◌else◌, Result, Ok, Err, codes}
 use Rattle.std.specs.Str.{bytes_eq}
-use Rattle.mr_value.specs.declared.ends.End.{End}
-use Rattle.mr_value.specs.declared.ends.End.TheVariants.{Left, Right}
-use Rattle.mr_value.specs.declared.ends.Side.{Side}
-use Rattle.mr_value.specs.declared.ends.Side.TheVariants.{Before, After}
-use Rattle.mr_words.specs.Names.{lowered}
-use Rattle.mr_words.specs.declared.fault.AskFault.{AskFault}
-use Rattle.mr_words.specs.declared.fault.AskFault.TheVariants.{Syntax}
+use Rattle.mr_bytes.specs.declared.ends.End.{End}
+use Rattle.mr_bytes.specs.declared.ends.End.TheVariants.{Left, Right}
+use Rattle.mr_bytes.specs.declared.ends.Side.{Side}
+use Rattle.mr_bytes.specs.declared.ends.Side.TheVariants.{Before, After}
+use Rattle.mr_arguments.specs.Names.{lowered}
+use Rattle.mr_arguments.specs.declared.fault.AskFault.{AskFault}
+use Rattle.mr_arguments.specs.declared.fault.AskFault.TheVariants.{Syntax}
 
 -- an option word, in lower case
 abbrev pub end_text : End → List ℕ

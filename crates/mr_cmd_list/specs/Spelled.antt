@@ -1,7 +1,7 @@
 -- The words that a command on lists is spelled by.
 use Rattle.std.specs.Prelude.{ℕ, List, [], ◌∷◌, map}
-use Rattle.mr_words.specs.Spelling.{Part, Word, Number, Keyword, count_part, AreParts, NameAndArguments}
-use Rattle.mr_words.specs.declared.name.Name.{Name}
+use Rattle.mr_arguments.specs.Spelling.{Part, Word, Number, Keyword, count_part, AreParts, NameAndArguments}
+use Rattle.mr_arguments.specs.declared.name.Name.{Name}
 use Rattle.mr_cmd_list.specs.Called.{list_name}
 use Rattle.mr_cmd_list.specs.Carried.{list_words}
 use Rattle.mr_cmd_list.specs.Parts.{end_text, side_text}

@@ -5,8 +5,8 @@ ghost use Rattle.mr_cmd_list.specs.Arguments.{push, pop, llen, lrange, lindex, l
 
 use crate::list_ask::{ListAsk, PushTo};
 use crate::parts::{end_of, side_of};
-use mr_value::End;
-use mr_words::{Argument, Arguments, AskFault, Name, Words, count, integer};
+use mr_arguments::{Argument, Arguments, AskFault, Name, Words, count, integer};
+use mr_bytes::End;
 
 type Reading<'a, 't> = Result<ListAsk<'a, 't>, AskFault>;
 

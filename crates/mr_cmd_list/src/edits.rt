@@ -2,16 +2,17 @@
 ghost use Rattle.std.specs.Prelude.{◌≡◌, ◌<◌, ◌^◌, IfOk, option_copied};
 ghost use Rattle.mr_resp.specs.ReplyView.{view};
 ghost use Rattle.mr_value.specs.Lists.{removed_count, count_of};
-ghost use Rattle.mr_planning.specs.Answered.{Takes};
+ghost use Rattle.mr_room.specs.Answered.{Takes};
 ghost use Rattle.mr_cmd_list.specs.Numbers.{IsShort, IsNumberFor};
 ghost use Rattle.mr_cmd_list.specs.Edits.{lset_answer, linsert_answer, lrem_answer, ltrim_answer, is_item};
 
 use crate::replies::{no_such_key, out_of_range};
+use mr_arguments::Argument;
+use mr_bytes::{Side, Word, place, window};
 use mr_data::{Effect, Entry, Value};
-use mr_planning::{Effects, done, integer, wrong_kind};
 use mr_resp::Reply;
-use mr_value::{ListValue, Side, Word, place, window};
-use mr_words::Argument;
+use mr_room::{Effects, done, integer, wrong_kind};
+use mr_value::ListValue;
 use std::alloc::{AllocError, Global};
 
 /// Another item in the place that an index names.

@@ -3,7 +3,8 @@ ghost use Rattle.std.specs.Prelude.{◌≡◌, option_copied};
 ghost use Rattle.mr_entries.specs.Collections.{end_item};
 ghost use Rattle.mr_cmd_list.specs.Moves.{is_same_end};
 
-use mr_value::{End, ListValue};
+use mr_bytes::End;
+use mr_value::ListValue;
 
 /// The item at an end.
 pub fn end_item(list: &ListValue, end: End) -> Option<&[u8]>

@@ -1,6 +1,6 @@
 // Commands on lists, with their arguments.
-use mr_value::{End, Side};
-use mr_words::{Argument, Words};
+use mr_arguments::{Argument, Words};
+use mr_bytes::{End, Side};
 
 /// A command on lists, with its arguments.
 #[derive(Drop)]

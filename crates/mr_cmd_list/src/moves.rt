@@ -4,16 +4,16 @@ ghost use Rattle.std.specs.Str.{bytes_eq};
 ghost use Rattle.mr_resp.specs.ReplyView.{view};
 ghost use Rattle.mr_data.specs.Dataset.{IsDataset};
 ghost use Rattle.mr_entries.specs.Steps.{lists, held};
-ghost use Rattle.mr_planning.specs.Answered.{Takes};
-ghost use Rattle.mr_planning.specs.Commands.{IsPlan};
+ghost use Rattle.mr_room.specs.Answered.{Takes};
+ghost use Rattle.mr_room.specs.Commands.{IsPlan};
 ghost use Rattle.mr_cmd_list.specs.Moves.{rotate_answer, carry, moving};
 
 use crate::ends::{end_item, is_same_end};
+use mr_arguments::Argument;
+use mr_bytes::{End, Word};
 use mr_data::{Dataset, Effect, Entry, Given, Plan, Value};
-use mr_planning::{Effects, bulk, look, wrong_kind};
 use mr_resp::Reply;
-use mr_value::{End, Word};
-use mr_words::Argument;
+use mr_room::{Effects, bulk, look, wrong_kind};
 use std::alloc::{AllocError, Global};
 
 /// The plan of a command that moves an item. A key that is named twice is looked at once.

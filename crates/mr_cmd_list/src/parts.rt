@@ -2,11 +2,11 @@
 ghost use Rattle.std.specs.Prelude.{◌≡◌};
 ghost use Rattle.std.specs.Cow.{cow_slice_items};
 ghost use Rattle.std.specs.Str.{bytes_eq};
-ghost use Rattle.mr_words.specs.Names.{lowered};
+ghost use Rattle.mr_arguments.specs.Names.{lowered};
 ghost use Rattle.mr_cmd_list.specs.Parts.{end_of, end_text, side_of, side_text};
 
-use mr_value::{End, Side};
-use mr_words::AskFault;
+use mr_arguments::AskFault;
+use mr_bytes::{End, Side};
 use std::borrow::CowSlice;
 
 /// `LEFT` or `RIGHT`, in any case.

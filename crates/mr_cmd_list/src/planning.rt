@@ -2,22 +2,22 @@
 ghost use Rattle.std.specs.Prelude.{IsTrue, IfOk, option_copied};
 ghost use Rattle.std.specs.List.{list_all};
 ghost use Rattle.std.specs.FinMap.{get};
-ghost use Rattle.mr_value.specs.Words.{fits};
+ghost use Rattle.mr_bytes.specs.Words.{fits};
 ghost use Rattle.mr_resp.specs.ReplyView.{view};
 ghost use Rattle.mr_data.specs.Dataset.{IsDataset, live};
 ghost use Rattle.mr_cmd_list.specs.Carried.{list_words};
-ghost use Rattle.mr_planning.specs.Answered.{Takes};
-ghost use Rattle.mr_planning.specs.Commands.{on_key, IsPlan, IsFaithful, HasCommandTexts};
+ghost use Rattle.mr_room.specs.Answered.{Takes};
+ghost use Rattle.mr_room.specs.Commands.{on_key, IsPlan, IsFaithful, HasCommandTexts};
 ghost use Rattle.mr_cmd_list.specs.Numbers.{HasNumbers, HasNumbersIn};
 ghost use Rattle.mr_cmd_list.specs.Commands.{answer_of, command};
 
 use crate::list_ask::ListAsk;
 use crate::{edits, moves, pops, pushes, telling};
+use mr_arguments::Argument;
+use mr_bytes::End;
 use mr_data::{Dataset, Entry, Given, Plan};
-use mr_planning::{Effects, look};
 use mr_resp::Reply;
-use mr_value::End;
-use mr_words::Argument;
+use mr_room::{Effects, look};
 use std::alloc::{AllocError, Global};
 
 /// What a command on lists is answered, and its effects. The dataset isn't changed, and the plan owns what it holds.

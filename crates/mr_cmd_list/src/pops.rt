@@ -1,17 +1,18 @@
 // Items taken from an end of a list.
 ghost use Rattle.std.specs.Prelude.{◌≡◌, ◌≤◌, min, length, map, IfOk, option_copied};
 ghost use Rattle.mr_resp.specs.ReplyView.{view};
-ghost use Rattle.mr_planning.specs.Answered.{Takes};
+ghost use Rattle.mr_room.specs.Answered.{Takes};
 ghost use Rattle.mr_cmd_list.specs.Lists.{items_reply};
 ghost use Rattle.mr_cmd_list.specs.Numbers.{IsShort, IsShortFor};
 ghost use Rattle.mr_cmd_list.specs.Pops.{pop_answer, taken_items};
 
 use crate::ends::end_item;
+use mr_arguments::Argument;
+use mr_bytes::{End, Word};
 use mr_data::{Effect, Entry, Value};
-use mr_planning::{Effects, bulk, wrong_kind};
 use mr_resp::Reply;
-use mr_value::{End, ListValue, Word};
-use mr_words::Argument;
+use mr_room::{Effects, bulk, wrong_kind};
+use mr_value::ListValue;
 use std::alloc::{AllocError, Global};
 
 /// `LPOP`, `RPOP`

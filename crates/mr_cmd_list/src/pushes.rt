@@ -4,15 +4,15 @@ ghost use Rattle.std.specs.Cow.{cow_slice_items};
 ghost use Rattle.mr_resp.specs.Replies.{int};
 ghost use Rattle.mr_resp.specs.ReplyView.{view};
 ghost use Rattle.mr_entries.specs.Cuts.{cut};
-ghost use Rattle.mr_planning.specs.Answered.{Takes};
+ghost use Rattle.mr_room.specs.Answered.{Takes};
 ghost use Rattle.mr_cmd_list.specs.Pushes.{push_answer, push_effects};
 
 use crate::list_ask::PushTo;
-use mr_data::{Effect, Entry, Value};
-use mr_planning::{Effects, integer, wrong_kind};
+use mr_arguments::{Argument, Words};
+use mr_bytes::{End, Word};
+use mr_data::{Effect, EffectWords, Entry, Value};
 use mr_resp::Reply;
-use mr_value::{End, Word};
-use mr_words::{Argument, Words};
+use mr_room::{Effects, integer, wrong_kind};
 use std::alloc::{AllocError, Global};
 use std::borrow::CowSlice;
 
@@ -71,10 +71,10 @@ fn push_groups(
 }
 
 /// The words, copied.
-fn copied(alloc: Global, words: &[CowSlice<'_, u8>]) -> Result<mr_data::Words<'static>, AllocError>
+fn copied(alloc: Global, words: &[CowSlice<'_, u8>]) -> Result<EffectWords<'static>, AllocError>
     ensures { IfOk result (λ ws. ws ≡ map cow_slice_items words.now) }
 {
-    let mut copied = mr_data::Words::new(alloc);
+    let mut copied = EffectWords::new(alloc);
     for word in words {
         copied.push(Word::copied(alloc, word.as_slice())?)?;
     }

@@ -4,10 +4,10 @@ ghost use Rattle.mr_resp.specs.ReplyView.{view};
 ghost use Rattle.mr_cmd_list.specs.Telling.{llen_answer, lrange_answer, lindex_answer};
 
 use crate::replies::{listed, none_listed};
+use mr_bytes::{place, window};
 use mr_data::{Entry, Value};
-use mr_planning::{bulk, integer, wrong_kind};
 use mr_resp::Reply;
-use mr_value::{place, window};
+use mr_room::{bulk, integer, wrong_kind};
 use std::alloc::{AllocError, Global};
 
 /// How many items there are.

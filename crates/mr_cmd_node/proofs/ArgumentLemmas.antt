@@ -4,15 +4,15 @@ use Rattle.std.specs.Prelude.{IfOk, if◌then◌else◌, nat_le, Result, Ok, Err
 use Rattle.std.specs.Fmt.{signed_decimal}
 use Rattle.std.specs.Option.{ok_or}
 use Rattle.std.specs.Str.{bytes_eq}
-use Rattle.mr_value.specs.Number.{number_of}
-use Rattle.mr_value.proofs.Numbers.{number_text, same_bytes}
-use Rattle.mr_words.specs.Names.{lowered}
-use Rattle.mr_words.specs.Parts.{with}
-use Rattle.mr_words.specs.declared.name.Name.{Name}
-use Rattle.mr_words.specs.declared.name.Name.TheVariants as name
-use Rattle.mr_words.specs.declared.fault.AskFault.{AskFault}
-use Rattle.mr_words.specs.declared.fault.AskFault.TheVariants.{Integer, Syntax}
-use Rattle.mr_words.proofs.PartLemmas.{with_integer}
+use Rattle.mr_bytes.specs.Number.{number_of}
+use Rattle.mr_bytes.proofs.Numbers.{number_text, same_bytes}
+use Rattle.mr_arguments.specs.Names.{lowered}
+use Rattle.mr_arguments.specs.Parts.{with}
+use Rattle.mr_arguments.specs.declared.name.Name.{Name}
+use Rattle.mr_arguments.specs.declared.name.Name.TheVariants as name
+use Rattle.mr_arguments.specs.declared.fault.AskFault.{AskFault}
+use Rattle.mr_arguments.specs.declared.fault.AskFault.TheVariants.{Integer, Syntax}
+use Rattle.mr_arguments.proofs.PartLemmas.{with_integer}
 use Rattle.mr_cmd_node.specs.Arguments.{psync, replconf, replicaof, multi, exec, discard, acknowledgement, telling, ack, no, one, is_no_one, port, port_of}
 use Rattle.mr_cmd_node.specs.Options.{all_tell, told, told_by}
 use Rattle.mr_cmd_node.specs.Spelled.{IsFollowing, NodeSpells}

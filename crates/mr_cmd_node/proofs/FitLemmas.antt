@@ -2,9 +2,9 @@
 use Rattle.std.proofs.Common.{ℕ, ◌≡◌, List, [], ◌∷◌, refl, ap}
 use Rattle.std.specs.Prelude.{IsTrue}
 use Rattle.std.specs.List.{list_all}
-use Rattle.mr_value.specs.Words.{fits}
-use Rattle.mr_words.proofs.FitLemmas.{carried, of_parts_fit}
-use Rattle.mr_words.specs.declared.name.Name.{Name}
+use Rattle.mr_bytes.specs.Words.{fits}
+use Rattle.mr_arguments.proofs.FitLemmas.{carried, of_parts_fit}
+use Rattle.mr_arguments.specs.declared.name.Name.{Name}
 use Rattle.mr_cmd_node.specs.Carried.{node_words, values}
 use Rattle.mr_cmd_node.specs.Spelled.{node_parts, NodeSpells, told_parts}
 use Rattle.mr_cmd_node.specs.declared.node_ask.ReplicaOption.{ReplicaOption}

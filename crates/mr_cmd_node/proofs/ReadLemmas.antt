@@ -5,16 +5,16 @@ use Rattle.std.specs.Fmt.{signed_decimal}
 use Rattle.std.specs.Option.{ok_or}
 use Rattle.std.specs.Str.{bytes_eq}
 use Rattle.std.proofs.lemmas.Bool.Decides.{nat_tests}
-use Rattle.mr_value.specs.Number.{is_i64}
-use Rattle.mr_value.proofs.Numbers.{bounds, digit, each_is_digit, number_is, same_bytes}
-use Rattle.mr_words.specs.Names.{lowered, lowered_byte}
-use Rattle.mr_words.specs.Parts.{with, integer}
-use Rattle.mr_words.specs.Spelling.{Part, Word, Number, Keyword, AreParts, IsPart}
-use Rattle.mr_words.proofs.ReadLemmas.{integer_is, keyword_is, two_parts, with_read}
-use Rattle.mr_words.specs.declared.name.Name.{Name}
-use Rattle.mr_words.specs.declared.name.Name.TheVariants as name
-use Rattle.mr_words.specs.declared.fault.AskFault.{AskFault}
-use Rattle.mr_words.specs.declared.fault.AskFault.TheVariants.{Integer, Syntax}
+use Rattle.mr_bytes.specs.Number.{is_i64}
+use Rattle.mr_bytes.proofs.Numbers.{bounds, digit, each_is_digit, number_is, same_bytes}
+use Rattle.mr_arguments.specs.Names.{lowered, lowered_byte}
+use Rattle.mr_arguments.specs.Parts.{with, integer}
+use Rattle.mr_arguments.specs.Spelling.{Part, Word, Number, Keyword, AreParts, IsPart}
+use Rattle.mr_arguments.proofs.ReadLemmas.{integer_is, keyword_is, two_parts, with_read}
+use Rattle.mr_arguments.specs.declared.name.Name.{Name}
+use Rattle.mr_arguments.specs.declared.name.Name.TheVariants as name
+use Rattle.mr_arguments.specs.declared.fault.AskFault.{AskFault}
+use Rattle.mr_arguments.specs.declared.fault.AskFault.TheVariants.{Integer, Syntax}
 use Rattle.mr_cmd_node.specs.Askable.{NodeIsAskable}
 use Rattle.mr_cmd_node.specs.Arguments.{psync, replconf, replicaof, acknowledgement, telling, ack, no, one, is_no_one, port, port_of}
 use Rattle.mr_cmd_node.specs.Options.{option_text}

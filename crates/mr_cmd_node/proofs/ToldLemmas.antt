@@ -2,9 +2,9 @@
 use Rattle.std.proofs.Common.{ℕ, ◌≡◌, ◌<◌, List, [], ◌∷◌, length, map, Bool, true, false, ◌&&◌, Option, Some, None, refl, ◌∙◌, ap, arith}
 use Rattle.std.specs.Prelude.{◌==◌, if◌then◌else◌, is_some}
 use Rattle.std.specs.Str.{bytes_eq}
-use Rattle.mr_value.proofs.Numbers.{same_bytes}
-use Rattle.mr_words.specs.Names.{lowered}
-use Rattle.mr_words.specs.Spelling.{AreParts}
+use Rattle.mr_bytes.proofs.Numbers.{same_bytes}
+use Rattle.mr_arguments.specs.Names.{lowered}
+use Rattle.mr_arguments.specs.Spelling.{AreParts}
 use Rattle.mr_cmd_node.specs.Arguments.{ack}
 use Rattle.mr_cmd_node.specs.Options.{all_tell, first_told, option_of, option_text, told, told_by}
 use Rattle.mr_cmd_node.specs.Spelled.{told_parts}

@@ -1,10 +1,10 @@
 -- The faults that the arguments of REPLCONF, REPLICAOF and SLAVEOF have.
 use Rattle.std.specs.Prelude.{ℕ, List, [], ◌∷◌, if◌then◌else◌, Option, Some, None}
 use Rattle.std.specs.Str.{bytes_eq}
-use Rattle.mr_words.specs.Names.{lowered}
-use Rattle.mr_words.specs.FaultOrder.{in_reading}
-use Rattle.mr_words.specs.declared.fault.AskFault.{AskFault}
-use Rattle.mr_words.specs.declared.fault.AskFault.TheVariants.{Syntax}
+use Rattle.mr_arguments.specs.Names.{lowered}
+use Rattle.mr_arguments.specs.FaultOrder.{in_reading}
+use Rattle.mr_arguments.specs.declared.fault.AskFault.{AskFault}
+use Rattle.mr_arguments.specs.declared.fault.AskFault.TheVariants.{Syntax}
 use Rattle.mr_cmd_node.specs.Arguments.{ack, acknowledgement, is_no_one, port}
 use Rattle.mr_cmd_node.specs.Options.{all_tell}
 

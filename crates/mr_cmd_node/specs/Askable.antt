@@ -1,6 +1,6 @@
 -- Which commands to the node words can ask for.
 use Rattle.std.specs.Prelude.{◌≢◌, ◌≤◌, []}
-use Rattle.mr_words.specs.Askable.{IsI64}
+use Rattle.mr_arguments.specs.Askable.{IsI64}
 use Rattle.mr_cmd_node.specs.declared.node_ask.NodeAsk.{NodeAsk}
 use Rattle.mr_cmd_node.specs.declared.node_ask.NodeAsk.TheVariants as node
 

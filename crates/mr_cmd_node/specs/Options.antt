@@ -2,7 +2,7 @@
 use Rattle.std.specs.Prelude.{ℕ, List, [], ◌∷◌, Bool, true, false, ◌&&◌, if◌then◌else◌, Option, Some, None, is_some, codes}
 use Rattle.std.specs.Borrow.{Bor}
 use Rattle.std.specs.Str.{bytes_eq}
-use Rattle.mr_words.specs.Names.{lowered}
+use Rattle.mr_arguments.specs.Names.{lowered}
 use Rattle.mr_cmd_node.specs.declared.node_ask.ReplicaOption.{ReplicaOption}
 use Rattle.mr_cmd_node.specs.declared.node_ask.ReplicaOption.TheVariants.{ListeningPort, IpAddress, Capability}
 

@@ -1,8 +1,8 @@
 -- The words that a command to the node is spelled by.
 use Rattle.std.specs.Prelude.{◌≡◌, ◌⊎◌, ℕ, pos, List, [], ◌∷◌}
-use Rattle.mr_words.specs.Spelling.{Part, Word, Number, Keyword, AreParts}
-use Rattle.mr_words.specs.declared.name.Name.{Name}
-use Rattle.mr_words.specs.declared.name.Name.TheVariants as name
+use Rattle.mr_arguments.specs.Spelling.{Part, Word, Number, Keyword, AreParts}
+use Rattle.mr_arguments.specs.declared.name.Name.{Name}
+use Rattle.mr_arguments.specs.declared.name.Name.TheVariants as name
 use Rattle.mr_cmd_node.specs.Options.{option_text}
 use Rattle.mr_cmd_node.specs.Arguments.{ack, no, one}
 use Rattle.mr_cmd_node.specs.declared.node_ask.ReplicaOption.{ReplicaOption}

@@ -2,13 +2,13 @@
 ghost use Rattle.std.specs.Prelude.{◌≡◌, map};
 ghost use Rattle.std.specs.Cow.{cow_slice_items};
 ghost use Rattle.std.specs.Str.{bytes_eq};
-ghost use Rattle.mr_words.specs.Names.{lowered};
+ghost use Rattle.mr_arguments.specs.Names.{lowered};
 ghost use Rattle.mr_cmd_node.specs.Arguments.{psync, replconf, replicaof, multi, exec, discard, acknowledgement, telling, ack, no, one, port, port_of};
 
 use crate::node_ask::NodeAsk;
 use crate::told::Told;
-use mr_value::read_i64;
-use mr_words::{Argument, Arguments, AskFault, Name, integer};
+use mr_arguments::{Argument, Arguments, AskFault, Name, integer};
+use mr_bytes::read_i64;
 use std::borrow::CowSlice;
 
 type Reading<'a, 't> = Result<NodeAsk<'a, 't>, AskFault>;

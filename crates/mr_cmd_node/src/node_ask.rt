@@ -1,11 +1,11 @@
 // Commands to the node, with their arguments.
 ghost use Rattle.std.specs.Prelude.{◌≡◌};
 ghost use Rattle.std.specs.Str.{bytes_eq};
-ghost use Rattle.mr_words.specs.Names.{lowered};
+ghost use Rattle.mr_arguments.specs.Names.{lowered};
 ghost use Rattle.mr_cmd_node.specs.Options.{option_of, option_text};
 
 use crate::told::Told;
-use mr_words::Argument;
+use mr_arguments::Argument;
 
 /// A command to the node, with its arguments.
 #[derive(Drop)]

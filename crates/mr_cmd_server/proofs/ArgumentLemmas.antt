@@ -2,23 +2,23 @@
 use Rattle.std.proofs.Common.{rules, ℕ, ℤ, pos, ◌≡◌, List, [], ◌∷◌, Bool, true, false, refl, ◌∙◌, ap}
 use Rattle.std.specs.Prelude.{IfOk, if◌then◌else◌, Result, Ok, Err}
 use Rattle.std.specs.Str.{bytes_eq}
-use Rattle.mr_value.proofs.Numbers.{same_bytes}
-use Rattle.mr_words.specs.Names.{lowered}
-use Rattle.mr_words.specs.Parts.{with}
+use Rattle.mr_bytes.proofs.Numbers.{same_bytes}
+use Rattle.mr_arguments.specs.Names.{lowered}
+use Rattle.mr_arguments.specs.Parts.{with}
 use Rattle.std.specs.Ordering.{int_eq}
 use Rattle.std.specs.Fmt.{signed_decimal}
 use Rattle.std.proofs.lemmas.Bool.Decides.{Decides-int_eq}
 use Rattle.mr_cmd_server.specs.Arguments.{ping, echo, select, quit, bgrewriteaof, info, role, shutdown, saving_of, saving_text, command, client, database, setname, setinfo}
-use Rattle.mr_words.proofs.FitLemmas.{all_words}
+use Rattle.mr_arguments.proofs.FitLemmas.{all_words}
 use Rattle.mr_cmd_server.specs.Spelled.{ServerSpells}
-use Rattle.mr_words.proofs.PartLemmas.{with_integer, with_keyword}
-use Rattle.mr_words.specs.declared.name.Name.TheVariants as name
+use Rattle.mr_arguments.proofs.PartLemmas.{with_integer, with_keyword}
+use Rattle.mr_arguments.specs.declared.name.Name.TheVariants as name
 use Rattle.mr_cmd_server.specs.declared.server_ask.ServerAsk.TheVariants as server
-use Rattle.mr_words.specs.declared.fault.AskFault.{AskFault}
-use Rattle.mr_words.specs.declared.fault.AskFault.TheVariants.{Other, Syntax}
+use Rattle.mr_arguments.specs.declared.fault.AskFault.{AskFault}
+use Rattle.mr_arguments.specs.declared.fault.AskFault.TheVariants.{Other, Syntax}
 use Rattle.mr_cmd_server.specs.declared.server_ask.Saving.{Saving}
 use Rattle.mr_cmd_server.specs.declared.server_ask.Saving.TheVariants.{First, Never}
-use Rattle.mr_words.specs.declared.fault.BadValue.TheVariants.{Database}
+use Rattle.mr_arguments.specs.declared.fault.BadValue.TheVariants.{Database}
 
 same_number : (m n : ℤ) → int_eq m n ≡ true → m ≡ n
 same_number m n h = search (rules, Decides-int_eq)

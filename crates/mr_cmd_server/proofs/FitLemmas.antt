@@ -2,7 +2,7 @@
 use Rattle.std.proofs.Common.{◌≡◌, refl, Some, None}
 use Rattle.mr_cmd_server.specs.Carried.{server_words}
 use Rattle.mr_cmd_server.specs.Spelled.{server_parts}
-use Rattle.mr_words.proofs.FitLemmas.{carried, carried-words}
+use Rattle.mr_arguments.proofs.FitLemmas.{carried, carried-words}
 use Rattle.mr_cmd_server.specs.declared.server_ask.ServerAsk.{ServerAsk}
 use Rattle.mr_cmd_server.specs.declared.server_ask.ServerAsk.TheVariants as server
 

@@ -2,7 +2,7 @@
 use Rattle.std.specs.Prelude.{ℤ}
 use Rattle.mr_entries.specs.Dataset.{Dataset}
 use Rattle.mr_cmd_server.specs.declared.server_ask.ServerAsk.{ServerAsk}
-use Rattle.mr_planning.proofs.Laws.{none_answered, IsLawful}
+use Rattle.mr_room.proofs.Laws.{none_answered, IsLawful}
 use Rattle.mr_cmd_server.specs.Commands.{server_reply, command}
 
 pub server_faithful : (c : ServerAsk) (now : ℤ) (m : Dataset) → IsLawful (command c) now m

@@ -1,11 +1,11 @@
 -- The faults that the arguments of CLIENT and SHUTDOWN have.
 use Rattle.std.specs.Prelude.{ℕ, List, [], ◌∷◌, if◌then◌else◌}
 use Rattle.std.specs.Str.{bytes_eq}
-use Rattle.mr_words.specs.Names.{lowered}
-use Rattle.mr_words.specs.FaultOrder.{in_reading}
+use Rattle.mr_arguments.specs.Names.{lowered}
+use Rattle.mr_arguments.specs.FaultOrder.{in_reading}
 use Rattle.mr_cmd_server.specs.Arguments.{saving_of, setinfo, setname}
-use Rattle.mr_words.specs.declared.fault.AskFault.{AskFault}
-use Rattle.mr_words.specs.declared.fault.AskFault.TheVariants.{Syntax}
+use Rattle.mr_arguments.specs.declared.fault.AskFault.{AskFault}
+use Rattle.mr_arguments.specs.declared.fault.AskFault.TheVariants.{Syntax}
 
 -- of SHUTDOWN
 abbrev pub saving_alone : List (List ℕ) → List AskFault

@@ -2,12 +2,12 @@
 use Rattle.std.specs.Prelude.{ℕ, ℤ, pos, List, [], ◌∷◌, if◌then◌else◌, Some, None, Result, Ok, Err, codes}
 use Rattle.std.specs.Str.{bytes_eq}
 use Rattle.std.specs.Ordering.{int_eq}
-use Rattle.mr_words.specs.Names.{lowered}
-use Rattle.mr_words.specs.Parts.{with, integer}
-use Rattle.mr_words.specs.declared.name.Name.TheVariants as name
-use Rattle.mr_words.specs.declared.fault.AskFault.{AskFault}
-use Rattle.mr_words.specs.declared.fault.AskFault.TheVariants.{Arity, Syntax, Other}
-use Rattle.mr_words.specs.declared.fault.BadValue.TheVariants.{Database}
+use Rattle.mr_arguments.specs.Names.{lowered}
+use Rattle.mr_arguments.specs.Parts.{with, integer}
+use Rattle.mr_arguments.specs.declared.name.Name.TheVariants as name
+use Rattle.mr_arguments.specs.declared.fault.AskFault.{AskFault}
+use Rattle.mr_arguments.specs.declared.fault.AskFault.TheVariants.{Arity, Syntax, Other}
+use Rattle.mr_arguments.specs.declared.fault.BadValue.TheVariants.{Database}
 use Rattle.mr_cmd_server.specs.declared.server_ask.ServerAsk.{ServerAsk}
 use Rattle.mr_cmd_server.specs.declared.server_ask.ServerAsk.TheVariants as ask
 use Rattle.mr_cmd_server.specs.declared.server_ask.Saving.{Saving}

@@ -1,7 +1,7 @@
 -- What a client asks about the node.
 use Rattle.std.specs.Prelude.{ℕ, List, Bool, ◌||◌, if◌then◌else◌, Option, Some, None, codes}
 use Rattle.std.specs.Str.{bytes_eq}
-use Rattle.mr_words.specs.Names.{lowered}
+use Rattle.mr_arguments.specs.Names.{lowered}
 use Rattle.mr_cmd_server.specs.declared.question.Question.{Question}
 use Rattle.mr_cmd_server.specs.declared.question.Question.TheVariants as question
 use Rattle.mr_cmd_server.specs.declared.server_ask.ServerAsk.{ServerAsk}

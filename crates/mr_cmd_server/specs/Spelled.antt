@@ -1,12 +1,12 @@
 -- The words that a command to the server itself is spelled by.
 use Rattle.std.specs.Prelude.{ℕ, pos, List, [], ◌∷◌, map, Option, Some, None}
-use Rattle.mr_words.specs.Spelling.{Part, Word, Number, Keyword, AreParts, NameAndArguments}
+use Rattle.mr_arguments.specs.Spelling.{Part, Word, Number, Keyword, AreParts, NameAndArguments}
 use Rattle.mr_cmd_server.specs.Carried.{server_words}
 use Rattle.mr_cmd_server.specs.Arguments.{saving_text, setname, setinfo}
 use Rattle.mr_cmd_server.specs.declared.server_ask.Saving.{Saving}
 use Rattle.mr_cmd_server.specs.declared.server_ask.ServerAsk.{ServerAsk}
 use Rattle.mr_cmd_server.specs.declared.server_ask.ServerAsk.TheVariants as server
-use Rattle.mr_words.specs.declared.name.Name.{Name}
+use Rattle.mr_arguments.specs.declared.name.Name.{Name}
 use Rattle.mr_cmd_server.specs.Called.{server_name}
 
 -- an option of SHUTDOWN that may be left out

@@ -2,11 +2,11 @@
 ghost use Rattle.std.specs.Prelude.{◌≡◌, map};
 ghost use Rattle.std.specs.Cow.{cow_slice_items};
 ghost use Rattle.std.specs.Str.{bytes_eq};
-ghost use Rattle.mr_words.specs.Names.{lowered};
+ghost use Rattle.mr_arguments.specs.Names.{lowered};
 ghost use Rattle.mr_cmd_server.specs.Arguments.{ping, echo, select, quit, bgrewriteaof, info, role, shutdown, saving_of, saving_text, command, client, setname, setinfo};
 
 use crate::server_ask::{Saving, ServerAsk};
-use mr_words::{Argument, Arguments, AskFault, BadValue, Name, Words, integer};
+use mr_arguments::{Argument, Arguments, AskFault, BadValue, Name, Words, integer};
 use std::borrow::CowSlice;
 
 type Reading<'a, 't> = Result<ServerAsk<'a, 't>, AskFault>;

@@ -1,13 +1,13 @@
 // Commands to the server itself.
 ghost use Rattle.std.specs.Prelude.{◌≡◌, IfOk};
 ghost use Rattle.mr_resp.specs.ReplyView.{view};
-ghost use Rattle.mr_planning.specs.Commands.{IsPlan, IsFaithful, HasCommandTexts};
+ghost use Rattle.mr_room.specs.Commands.{IsPlan, IsFaithful, HasCommandTexts};
 ghost use Rattle.mr_cmd_server.specs.Commands.{command, server_reply};
 
 use crate::server_ask::ServerAsk;
 use mr_data::{Dataset, Given, Plan};
-use mr_planning::{Effects, bulk, done};
 use mr_resp::Reply;
+use mr_room::{Effects, bulk, done};
 use std::alloc::{AllocError, Global};
 use std::borrow::CowSlice;
 

@@ -1,5 +1,5 @@
 // Commands to the server itself, with their arguments.
-use mr_words::{Argument, Words};
+use mr_arguments::{Argument, Words};
 
 /// A command to the server itself, with its arguments.
 #[derive(Drop)]

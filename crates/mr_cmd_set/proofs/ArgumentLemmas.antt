@@ -2,15 +2,15 @@
 use Rattle.std.proofs.Common.{ℕ, ◌≡◌, List, [], ◌∷◌, Some, None, refl}
 use Rattle.std.specs.Prelude.{IsTrue, IfOk}
 use Rattle.std.specs.List.{list_all}
-use Rattle.mr_value.specs.Words.{fits}
+use Rattle.mr_bytes.specs.Words.{fits}
 use Rattle.mr_cmd_set.specs.Arguments.{sadd, srem, sismember, smismember, smembers, scard, spop, srandmember, smove, combine}
 use Rattle.mr_cmd_set.specs.Called.{set_name}
 use Rattle.mr_cmd_set.specs.Carried.{set_words}
-use Rattle.mr_words.proofs.FitLemmas.{all_words, carried, carried-words, of_parts_fit}
+use Rattle.mr_arguments.proofs.FitLemmas.{all_words, carried, carried-words, of_parts_fit}
 use Rattle.mr_cmd_set.specs.Spelled.{set_parts, SetSpells}
-use Rattle.mr_words.proofs.PartLemmas.{with_count}
-use Rattle.mr_words.specs.declared.name.Name.{Name}
-use Rattle.mr_words.specs.declared.name.Name.TheVariants as name
+use Rattle.mr_arguments.proofs.PartLemmas.{with_count}
+use Rattle.mr_arguments.specs.declared.name.Name.{Name}
+use Rattle.mr_arguments.specs.declared.name.Name.TheVariants as name
 use Rattle.mr_cmd_set.specs.declared.set_ask.SetAsk.{SetAsk}
 use Rattle.mr_cmd_set.specs.declared.set_ask.SetAsk.TheVariants as set
 use Rattle.mr_cmd_set.specs.declared.set_ask.SetOperation.{SetOperation}

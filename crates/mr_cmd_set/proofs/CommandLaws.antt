@@ -3,20 +3,20 @@ use Rattle.std.proofs.Common.{◌≡◌, ℕ, Bool, true, ◌&&◌, refl}
 use Rattle.std.specs.Prelude.{IsTrue, ℤ}
 use Rattle.std.specs.List.{list_all}
 use Rattle.std.specs.FinMap.{contains_key, keys, len}
-use Rattle.mr_value.specs.Words.{fits}
+use Rattle.mr_bytes.specs.Words.{fits}
 use Rattle.mr_entries.specs.Dataset.{Dataset}
 use Rattle.mr_cmd_set.specs.Carried.{set_words}
 use Rattle.mr_cmd_set.specs.declared.set_ask.SetAsk.{SetAsk}
 use Rattle.mr_cmd_set.specs.declared.set_ask.SetAsk.TheVariants as ask
-use Rattle.mr_planning.specs.Commands.{before}
-use Rattle.mr_planning.proofs.Laws.{faithful, answered_faithful, IsLawful}
+use Rattle.mr_room.specs.Commands.{before}
+use Rattle.mr_room.proofs.Laws.{faithful, answered_faithful, IsLawful}
 use Rattle.mr_cmd_set.specs.declared.grouping.Write.TheVariants as write
 use Rattle.mr_cmd_set.specs.Members.{as_set}
 use Rattle.mr_cmd_set.specs.Sets.{added, adding, removed, removing, taken, taking, drawn_reply, flag, flags, bulks, number}
 use Rattle.mr_cmd_set.specs.SetCommands.{command, RestsOn}
 use Rattle.mr_cmd_set.proofs.Groups.{group_change}
 use Rattle.mr_cmd_set.proofs.Faithful.{first, second, both, held_fits, taken_there, with_added, added_none, added_fit, without_removed, removed_none, removed_fit, without_set, set_none, set_fits, changing_set}
-use Rattle.mr_cmd_set.proofs.Tells.{tells_faithful}
+use Rattle.mr_cmd_set.proofs.AnswerLemmas.{tells_faithful}
 use Rattle.mr_cmd_set.proofs.Moves.{move_faithful}
 
 one_key : (a b : Bool) → a && b ≡ true → a && true ≡ true

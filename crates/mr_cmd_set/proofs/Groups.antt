@@ -4,7 +4,7 @@ use Rattle.std.specs.Prelude.{IsTrue, ◌==◌}
 use Rattle.std.specs.List.{AllByRecursion, list_all}
 use Rattle.std.specs.FinMap.{empty, keys, len}
 use Rattle.mr_map.specs.Bytes.{Bytes}
-use Rattle.mr_value.specs.Words.{fits}
+use Rattle.mr_bytes.specs.Words.{fits}
 use Rattle.mr_resp.specs.Replies.{Tree}
 use Rattle.mr_entries.specs.Collections.{with_members, without_members}
 use Rattle.mr_entries.specs.Steps.{sets, held, entry_of, deadline_of}
@@ -17,7 +17,7 @@ use Rattle.mr_entries.proofs.Cutting.{IsGroup, cut_groups, cut_whole, no_cut}
 use Rattle.mr_data.proofs.Folds.{adding_members, add_members_is_step}
 use Rattle.mr_data.proofs.Running.{IsStep, steps_of, IsFold, group_step, groups_run}
 use Rattle.mr_data.proofs.KindLaws.{sets_are}
-use Rattle.mr_planning.proofs.Changing.{IsFaithfulChange}
+use Rattle.mr_room.proofs.Changing.{IsFaithfulChange}
 use Rattle.mr_cmd_set.specs.declared.grouping.Write.{Write}
 use Rattle.mr_cmd_set.specs.declared.grouping.Write.TheVariants as write
 use Rattle.mr_cmd_set.specs.Members.{Members}

@@ -5,7 +5,7 @@ pub mod Single
 pub mod Draws
 pub mod Combinations
 pub mod Smallest
-pub mod Tells
+pub mod AnswerLemmas
 pub mod Groups
 pub mod Faithful
 pub mod Moves

@@ -8,7 +8,7 @@ use Rattle.std.specs.Str.{bytes_eq}
 use Rattle.std.proofs.lemmas.List.{map-append}
 use Rattle.std.proofs.lemmas.Slice.Eq.{bytes_eq-Decides}
 use Rattle.mr_map.specs.Bytes.{Bytes}
-use Rattle.mr_value.specs.Words.{fits}
+use Rattle.mr_bytes.specs.Words.{fits}
 use Rattle.mr_resp.specs.Replies.{Tree}
 use Rattle.mr_entries.specs.Dataset.{Dataset, put_at}
 use Rattle.mr_data.specs.Dataset.{live, seen}
@@ -21,14 +21,14 @@ use Rattle.mr_entries.specs.declared.value.Entry.{Entry}
 use Rattle.mr_data.proofs.Seeing.{get-seen}
 use Rattle.mr_effect.specs.declared.effect.Effect.{Effect}
 use Rattle.mr_effect.specs.declared.effect.Effect.TheVariants as effect
-use Rattle.mr_planning.specs.Taken.{is_key, has}
-use Rattle.mr_planning.specs.Keys.{expired, purged, dels, is_stored}
-use Rattle.mr_planning.specs.Outcomes.{answered}
-use Rattle.mr_planning.specs.Commands.{Command, before, Plans}
+use Rattle.mr_room.specs.Taken.{is_key, has}
+use Rattle.mr_room.specs.Keys.{expired, purged, dels, is_stored}
+use Rattle.mr_room.specs.Outcomes.{answered}
+use Rattle.mr_room.specs.Commands.{Command, before, Plans}
 use Rattle.mr_entries.proofs.Maps.{same_key}
 use Rattle.mr_entries.proofs.Puts.{is_key_itself, get_put, get_put_other, get_remove}
-use Rattle.mr_planning.proofs.KeyLists.{get_purged}
-use Rattle.mr_planning.proofs.Laws.{faithful, IsFaithfulAt, IsLawful, answered_faithful, one_short}
+use Rattle.mr_room.proofs.KeyLists.{get_purged}
+use Rattle.mr_room.proofs.Laws.{faithful, IsFaithfulAt, IsLawful, answered_faithful, one_short}
 use Rattle.mr_data.proofs.Running.{held_entry}
 use Rattle.mr_data.proofs.KindLaws.{sets_are}
 use Rattle.mr_cmd_set.specs.Members.{Members}

@@ -1,5 +1,5 @@
 -- One word that changes a set, or not.
-use Rattle.std.proofs.Common.{ℕ, ◌≡◌, [], ◌∷◌, Bool, true, false, length, refl, sym, ◌∙◌, ap}
+use Rattle.std.proofs.Common.{◌≡◌, [], ◌∷◌, true, false, length, refl, sym, ◌∙◌, ap}
 use Rattle.std.specs.FinMap.{empty, insert, len, retain_keys, len-empty}
 use Rattle.mr_map.specs.Bytes.{Bytes, bytes_cmp}
 use Rattle.mr_cmd_set.specs.declared.grouping.Write.{Write}

@@ -8,7 +8,7 @@ use Rattle.std.proofs.lemmas.Cmp.{nat_list_cmp_total}
 use Rattle.std.proofs.lemmas.List.Elements.{All-nil, All-cons, All-head, All-tail, All-push, All-weaker, All-contains, Contains-append_left, Contains-push}
 use Rattle.std.proofs.lemmas.Map.Lookups.{exact_bytes}
 use Rattle.mr_map.specs.Bytes.{Bytes}
-use Rattle.mr_planning.proofs.KeyLists.{more_words}
+use Rattle.mr_room.proofs.KeyLists.{more_words}
 use Rattle.mr_cmd_set.specs.declared.set_ask.SetOperation.TheVariants as operation
 use Rattle.mr_cmd_set.specs.Members.{Members}
 use Rattle.mr_cmd_set.specs.Smallest.{IsSmallest}

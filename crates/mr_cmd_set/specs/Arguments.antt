@@ -1,12 +1,12 @@
 -- Commands on sets.
 use Rattle.std.specs.Prelude.{ℕ, List, [], ◌∷◌, Some, None, Result, Ok, Err}
-use Rattle.mr_words.specs.declared.name.Name.{Name}
-use Rattle.mr_words.specs.declared.name.Name.TheVariants as name
-use Rattle.mr_words.specs.declared.fault.AskFault.{AskFault}
-use Rattle.mr_words.specs.declared.fault.AskFault.TheVariants.{Arity}
+use Rattle.mr_arguments.specs.declared.name.Name.{Name}
+use Rattle.mr_arguments.specs.declared.name.Name.TheVariants as name
+use Rattle.mr_arguments.specs.declared.fault.AskFault.{AskFault}
+use Rattle.mr_arguments.specs.declared.fault.AskFault.TheVariants.{Arity}
 use Rattle.mr_cmd_set.specs.declared.set_ask.SetAsk.{SetAsk}
 use Rattle.mr_cmd_set.specs.declared.set_ask.SetAsk.TheVariants as ask
-use Rattle.mr_words.specs.Parts.{with, count}
+use Rattle.mr_arguments.specs.Parts.{with, count}
 use Rattle.mr_cmd_set.specs.declared.set_ask.SetOperation.{SetOperation}
 
 -- SADD key member [member ..]

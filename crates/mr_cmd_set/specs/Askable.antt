@@ -1,6 +1,6 @@
 -- Which commands on sets words can ask for.
 use Rattle.std.specs.Prelude.{◌≢◌, []}
-use Rattle.mr_words.specs.Askable.{IsCount}
+use Rattle.mr_arguments.specs.Askable.{IsCount}
 use Rattle.mr_cmd_set.specs.declared.set_ask.SetAsk.{SetAsk}
 use Rattle.mr_cmd_set.specs.declared.set_ask.SetAsk.TheVariants as set
 

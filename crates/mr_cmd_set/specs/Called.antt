@@ -1,6 +1,6 @@
 -- The names of commands on sets.
-use Rattle.mr_words.specs.declared.name.Name.{Name}
-use Rattle.mr_words.specs.declared.name.Name.TheVariants as name
+use Rattle.mr_arguments.specs.declared.name.Name.{Name}
+use Rattle.mr_arguments.specs.declared.name.Name.TheVariants as name
 use Rattle.mr_cmd_set.specs.declared.set_ask.SetOperation.TheVariants.{Intersection, Union, Difference}
 use Rattle.mr_cmd_set.specs.declared.set_ask.SetAsk.{SetAsk}
 use Rattle.mr_cmd_set.specs.declared.set_ask.SetAsk.TheVariants as set

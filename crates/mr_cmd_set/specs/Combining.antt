@@ -8,8 +8,8 @@ use Rattle.mr_cmd_set.specs.declared.set_ask.SetOperation.{SetOperation}
 use Rattle.mr_cmd_set.specs.declared.set_ask.SetOperation.TheVariants as operation
 use Rattle.mr_entries.specs.Dataset.{Dataset}
 use Rattle.mr_entries.specs.Steps.{sets, held}
-use Rattle.mr_planning.specs.Answered.{wrong_kind}
-use Rattle.mr_planning.specs.Outcomes.{Outcome, answered}
+use Rattle.mr_room.specs.Answered.{wrong_kind}
+use Rattle.mr_room.specs.Outcomes.{Outcome, answered}
 use Rattle.mr_cmd_set.specs.Members.{Members, common, minus, joined}
 use Rattle.mr_cmd_set.specs.Sets.{bulks}
 

@@ -8,8 +8,8 @@ use Rattle.mr_entries.specs.Steps.{sets, held, entry_of, deadline_of}
 use Rattle.mr_effect.specs.declared.effect.Effect.{Effect}
 use Rattle.mr_effect.specs.declared.effect.Effect.TheVariants as effect
 use Rattle.mr_resp.specs.Replies.{Tree}
-use Rattle.mr_planning.specs.Answered.{wrong_kind}
-use Rattle.mr_planning.specs.Outcomes.{Outcome, answered}
+use Rattle.mr_room.specs.Answered.{wrong_kind}
+use Rattle.mr_room.specs.Outcomes.{Outcome, answered}
 use Rattle.mr_cmd_set.specs.Members.{Members}
 use Rattle.mr_cmd_set.specs.Sets.{number}
 

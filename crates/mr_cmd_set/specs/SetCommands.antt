@@ -1,11 +1,15 @@
 -- The commands on sets.
-use Rattle.std.specs.Prelude.{ℕ, [], ◌∷◌}
+use Rattle.std.specs.Prelude.{ℕ, [], ◌∷◌, Bool, true, false}
+use Rattle.std.specs.FinMap.{contains_key, keys, len}
+use Rattle.mr_resp.specs.Replies.{Tree}
 use Rattle.mr_cmd_set.specs.declared.set_ask.SetAsk.{SetAsk}
 use Rattle.mr_cmd_set.specs.declared.set_ask.SetAsk.TheVariants as ask
 use Rattle.mr_entries.specs.Dataset.{Dataset}
 use Rattle.mr_data.specs.Dataset.{IsDataset}
-use Rattle.mr_planning.specs.Commands.{Command, on_key}
-use Rattle.mr_cmd_set.specs.Sets.{sismember_answer, smismember_answer, smembers_answer, scard_answer, sadd_answer, srem_answer, spop_answer, srandmember_answer}
+use Rattle.mr_room.specs.Collections.{Change}
+use Rattle.mr_room.specs.Commands.{Command, on_key}
+use Rattle.mr_cmd_set.specs.Members.{Members}
+use Rattle.mr_cmd_set.specs.Sets.{number, flag, flags, bulks, adding, removing, taking, drawn_reply, taken, sismember_answer, smismember_answer, smembers_answer, scard_answer, sadd_answer, srem_answer, spop_answer, srandmember_answer}
 use Rattle.mr_cmd_set.specs.Moving.{smove}
 use Rattle.mr_cmd_set.specs.Combining.{combine}
 
@@ -26,3 +30,25 @@ command (ask.Combine op ks) word = record { keys = ks; outcome = combine op ks }
 abbrev pub RestsOn : SetAsk → Dataset → Type 0
 RestsOn (ask.Combine op ks) m = Unit {0}
 RestsOn _ m = IsDataset m
+
+-- ---- Commands on one key are told from each other once the set there is found.
+abbrev pub is_on_one_key : SetAsk → Bool
+is_on_one_key (ask.SMove from to x) = false
+is_on_one_key (ask.Combine op ks) = false
+is_on_one_key _ = true
+
+-- the set stays as it is
+abbrev pub told : (Members → Tree) → Members → Change Members
+told answer s = record { reply = answer s; value = s; effects = [] }
+
+-- what a command on one key does to the set there; of one on several keys nothing is asked
+abbrev pub change : SetAsk → ℕ → Members → Change Members
+change (ask.SAdd k xs) word = adding k xs
+change (ask.SRem k xs) word = removing k xs
+change (ask.SIsMember k x) word = told (λ s. flag (contains_key s x))
+change (ask.SMIsMember k xs) word = told (flags xs)
+change (ask.SMembers k) word = told (λ s. bulks (keys s))
+change (ask.SCard k) word = told (λ s. number (len s))
+change (ask.SPop k count) word = taking k count word
+change (ask.SRandMember k count) word = told (λ s. drawn_reply count (taken count word s))
+change _ word = told (λ s. number 0)

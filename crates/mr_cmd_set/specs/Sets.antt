@@ -1,5 +1,5 @@
 -- What each command on one set answers, makes of it, and has as its effects.
-use Rattle.std.specs.Prelude.{ℕ, pos, List, [], ◌∷◌, map, Bool, if◌then◌else◌, Option, Some, None}
+use Rattle.std.specs.Prelude.{◌≡◌, ℕ, pos, List, [], ◌∷◌, ◌++◌, map, Bool, if◌then◌else◌, Option, Some, None}
 use Rattle.std.specs.FinMap.{contains_key, keys, len}
 use Rattle.mr_map.specs.Bytes.{Bytes}
 use Rattle.mr_resp.specs.Replies as reply
@@ -8,9 +8,10 @@ use Rattle.mr_resp.specs.ReplyView.{trees_of}
 use Rattle.mr_entries.specs.Collections.{with_members, without_members}
 use Rattle.mr_entries.specs.Steps.{sets}
 use Rattle.mr_entries.specs.declared.value.Entry.{Entry}
+use Rattle.mr_effect.specs.declared.effect.Effect.{Effect}
 use Rattle.mr_effect.specs.declared.effect.Effect.TheVariants as effect
-use Rattle.mr_planning.specs.Answered.{Answered}
-use Rattle.mr_planning.specs.Collections.{Change, telling, changing}
+use Rattle.mr_room.specs.Answered.{Answered}
+use Rattle.mr_room.specs.Collections.{Change, telling, changing}
 use Rattle.mr_entries.specs.Cuts.{cut}
 use Rattle.mr_cmd_set.specs.Members.{Members, as_set, common, minus, drawn}
 
@@ -104,3 +105,8 @@ taking k count word s = record {
 
 abbrev pub spop_answer : Bytes → Option ℕ → ℕ → Option Entry → Answered
 spop_answer k count word = changing sets (taking k count word)
+
+-- ---- what was done to a set: the reply is the change's, and its effects were put behind those that were there
+pub record Makes (change : Change Members) (reply : Tree) (old new : List Effect) : Type 0 where
+  pub reply_is : reply ≡ change.reply
+  pub effects_are : new ≡ old ++ change.effects

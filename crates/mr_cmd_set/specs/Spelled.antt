@@ -1,7 +1,7 @@
 -- The words that a command on sets is spelled by.
 use Rattle.std.specs.Prelude.{ℕ, List, ◌∷◌, map}
-use Rattle.mr_words.specs.Spelling.{Part, Word, count_part, AreParts, NameAndArguments}
-use Rattle.mr_words.specs.declared.name.Name.{Name}
+use Rattle.mr_arguments.specs.Spelling.{Part, Word, count_part, AreParts, NameAndArguments}
+use Rattle.mr_arguments.specs.declared.name.Name.{Name}
 use Rattle.mr_cmd_set.specs.Called.{set_name}
 use Rattle.mr_cmd_set.specs.Carried.{set_words}
 use Rattle.mr_cmd_set.specs.declared.set_ask.SetAsk.{SetAsk}

@@ -4,7 +4,7 @@ ghost use Rattle.std.specs.Cow.{cow_slice_items};
 ghost use Rattle.mr_cmd_set.specs.Arguments.{sadd, srem, sismember, smismember, smembers, scard, spop, srandmember, smove, combine};
 
 use crate::set_ask::{SetAsk, SetOperation};
-use mr_words::{Argument, Arguments, AskFault, Name, Words, count};
+use mr_arguments::{Argument, Arguments, AskFault, Name, Words, count};
 
 type Reading<'a, 't> = Result<SetAsk<'a, 't>, AskFault>;
 

@@ -5,7 +5,7 @@ ghost use Rattle.std.specs.FinMap as map;
 ghost use Rattle.mr_resp.specs.ReplyView.{view};
 ghost use Rattle.mr_data.specs.Dataset.{seen};
 ghost use Rattle.mr_cmd_set.specs.declared.set_ask.SetOperation.TheVariants as operation;
-ghost use Rattle.mr_planning.specs.Keys.{dels, expired};
+ghost use Rattle.mr_room.specs.Keys.{dels, expired};
 ghost use Rattle.mr_cmd_set.specs.Combining.{sets_at, combined, of_all};
 ghost use Rattle.mr_cmd_set.specs.Finding.{HasFound};
 ghost use Rattle.mr_cmd_set.specs.Members.{joined};
@@ -13,14 +13,14 @@ ghost use Rattle.mr_cmd_set.specs.Smallest.{IsSmallest};
 ghost use Rattle.mr_cmd_set.specs.Grouping.{members_of, agrees, is_wanted};
 ghost use Rattle.mr_cmd_set.specs.Sets.{bulks};
 
-use crate::replies::set_at;
+use crate::finding::set_at;
 use crate::set_ask::SetOperation;
+use mr_arguments::Words;
 use mr_data::{Dataset, Given};
 use mr_map::SliceMap;
-use mr_planning::{Effects, bulk, push_dels, see};
 use mr_resp::Reply;
+use mr_room::{Effects, bulk, push_dels, see};
 use mr_value::SetValue;
-use mr_words::Words;
 use std::alloc::{AllocError, Global};
 
 /// Sets that lie in a dataset.

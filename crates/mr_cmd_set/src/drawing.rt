@@ -2,20 +2,17 @@
 ghost use Rattle.std.specs.Prelude.{◌≡◌, ◌++◌, ◌%◌, ◌<◌, [], ◌∷◌, take, IfOk, OnOk, IfSome, IfNone, option_copied};
 ghost use Rattle.std.specs.FinMap as map;
 ghost use Rattle.mr_resp.specs.ReplyView.{view};
-ghost use Rattle.mr_planning.specs.Answered.{Takes};
 ghost use Rattle.mr_cmd_set.specs.Members.{drawn, as_set};
 ghost use Rattle.mr_cmd_set.specs.Grouping.{texts, group_effects};
 ghost use Rattle.mr_cmd_set.specs.declared.grouping.Write.TheVariants as write;
-ghost use Rattle.mr_cmd_set.specs.Sets.{srandmember_answer, spop_answer, first_bulk, one_bulk, bulks};
+ghost use Rattle.mr_cmd_set.specs.Sets.{drawn_reply, taken, taking, first_bulk, one_bulk, bulks, Makes};
 
 use crate::grouping::{Write, push_groups, push_member};
-use crate::replies::set_at;
-use mr_data::Entry;
+use mr_arguments::Argument;
 use mr_map::SliceMap;
-use mr_planning::{Effects, bulk, wrong_kind};
 use mr_resp::Reply;
+use mr_room::{Effects, bulk};
 use mr_value::{Members, SetValue};
-use mr_words::Argument;
 use std::alloc::{AllocError, Global};
 
 /// The place that a random word names among so many.
@@ -107,14 +104,10 @@ pub fn srandmember(
     alloc: Global,
     count: Option<usize>,
     word: u64,
-    live_entry: Option<&Entry>,
+    set: &SetValue,
 ) -> Result<Reply, AllocError>
-    ensures { IfOk result (λ r. view r ≡ (srandmember_answer count word (option_copied live_entry.entry)).reply) }
+    ensures { IfOk result (λ r. view r ≡ drawn_reply count (taken count word set.now)) }
 {
-    let empty = SetValue::new(alloc);
-    let Some(set) = set_at(live_entry, &empty) else {
-        return Ok(wrong_kind());
-    };
     let Some(count) = count else {
         return one_bulk(alloc, draw_one(set, word));
     };
@@ -138,15 +131,11 @@ pub fn spop(
     key: &Argument<'_>,
     count: Option<usize>,
     word: u64,
-    live_entry: Option<&Entry>,
+    set: &SetValue,
     effects: &mut Effects,
 ) -> Result<Reply, AllocError>
-    ensures { IfOk result (λ r. Takes (spop_answer key.now count word (option_copied live_entry.entry)) (view r) effects.old effects.new) }
+    ensures { IfOk result (λ r. Makes (taking key.now count word set.now) (view r) effects.old effects.new) }
 {
-    let empty = SetValue::new(alloc);
-    let Some(set) = set_at(live_entry, &empty) else {
-        return Ok(wrong_kind());
-    };
     match count {
         None => take_one(alloc, key, word, set, effects),
         Some(count) => take_some(alloc, key, count, word, set, effects),

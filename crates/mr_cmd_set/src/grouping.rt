@@ -1,13 +1,17 @@
 // Effects on members, in groups.
 ghost use Rattle.std.specs.Prelude.{◌≡◌, ◌<◌, ◌^◌, [], ◌∷◌, ◌++◌, IfOk, OnOk};
 ghost use Rattle.std.specs.FinMap.{len};
+ghost use Rattle.mr_resp.specs.ReplyView.{view};
+ghost use Rattle.mr_cmd_set.specs.Sets.{number};
 ghost use Rattle.mr_cmd_set.specs.Grouping.{changed_by, changes, group_effect, group_effects};
 
-use mr_data::{Effect, Words};
+use mr_arguments::{Argument, Words};
+use mr_bytes::Word;
+use mr_data::{Effect, EffectWords};
 use mr_map::SliceMap;
-use mr_planning::Effects;
-use mr_value::{SetValue, Word};
-use mr_words::{Argument, Words as Arguments};
+use mr_resp::Reply;
+use mr_room::{Effects, count};
+use mr_value::SetValue;
 use std::alloc::{AllocError, Global};
 
 /// What is done to members of a set.
@@ -24,7 +28,7 @@ const MOST_ITEMS: usize = 64;
 fn changed_by<'a>(
     alloc: Global,
     write: Write,
-    words: &Arguments<'a, '_>,
+    words: &Words<'a, '_>,
     set: &SetValue,
 ) -> Result<SliceMap<'a, ()>, AllocError>
     ensures { IfOk result (λ s. s ≡ changed_by write words.now set.now) }
@@ -49,12 +53,29 @@ fn changes(write: Write, set: &SetValue, member: &[u8]) -> bool
     }
 }
 
-/// Effects that write those words that change the set, and how many these are.
-pub fn push_changes(
+/// `SADD`, `SREM`: how many of the words change the set. The effects that write these are put behind those that are
+/// there.
+pub fn write_members(
     alloc: Global,
     write: Write,
     key: &Argument<'_>,
-    words: &Arguments<'_, '_>,
+    words: &Words<'_, '_>,
+    set: &SetValue,
+    effects: &mut Effects,
+) -> Result<Reply, AllocError>
+    ensures reply { IfOk result (λ r. view r ≡ number (len (changed_by write words.now set.now))) }
+    ensures effects { OnOk result (effects.new ≡ effects.old ++ group_effects write key.now (changed_by write words.now set.now)) }
+{
+    let changed = push_changes(alloc, write, key, words, set, effects)?;
+    Ok(count(changed))
+}
+
+/// Effects that write those words that change the set, and how many these are.
+fn push_changes(
+    alloc: Global,
+    write: Write,
+    key: &Argument<'_>,
+    words: &Words<'_, '_>,
     set: &SetValue,
     effects: &mut Effects,
 ) -> Result<usize, AllocError>
@@ -100,7 +121,7 @@ pub fn push_member(
 ) -> Result<(), AllocError>
     ensures { OnOk result (effects.new ≡ effects.old ++ group_effect write key.now (member.now ∷ []) ∷ []) }
 {
-    let mut members = Words::new(alloc);
+    let mut members = EffectWords::new(alloc);
     members.push(Word::copied(alloc, member)?)?;
     effects.push(group_effect(alloc, write, key, members)?)?;
     Ok(())
@@ -116,12 +137,12 @@ pub fn push_groups(
 ) -> Result<(), AllocError>
     ensures { OnOk result (effects.new ≡ effects.old ++ group_effects write key.now members.now) }
 {
-    let mut group = Words::new(alloc);
+    let mut group = EffectWords::new(alloc);
     for (member, _) in members.iter() {
         group.push(Word::copied(alloc, member)?)?;
         if group.len() == MOST_ITEMS {
             effects.push(group_effect(alloc, write, key, group)?)?;
-            group = Words::new(alloc);
+            group = EffectWords::new(alloc);
         }
     }
     if !group.is_empty() {
@@ -135,7 +156,7 @@ fn group_effect(
     alloc: Global,
     write: Write,
     key: &Argument<'_>,
-    members: Words<'static>,
+    members: EffectWords<'static>,
 ) -> Result<Effect<'static>, AllocError>
     ensures { IfOk result (λ e. e ≡ group_effect write key.now members.entry) }
 {

@@ -4,7 +4,7 @@ ghost use Rattle.std.specs.List.{count_by, list_all, list_any};
 ghost use Rattle.std.specs.FinMap.{contains_key, keys, len};
 ghost use Rattle.mr_map.specs.Bytes.{Bytes};
 ghost use Rattle.mr_cmd_set.specs.declared.set_ask.SetOperation.TheVariants as operation;
-ghost use Rattle.mr_planning.specs.Taken.{has, is_key};
+ghost use Rattle.mr_room.specs.Taken.{has, is_key};
 ghost use Rattle.mr_cmd_set.specs.Members.{Members, drawn};
 ghost use Rattle.mr_cmd_set.specs.Combining.{combined};
 

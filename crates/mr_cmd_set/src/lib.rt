@@ -2,14 +2,13 @@
 #![tactic(auto)]
 
 pub mod arguments;
-mod changing;
 mod combining;
 mod drawing;
+mod finding;
 mod grouping;
 mod laws;
 mod moving;
 mod planning;
-mod replies;
 mod set_ask;
 mod telling;
 

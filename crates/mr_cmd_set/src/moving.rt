@@ -6,12 +6,13 @@ ghost use Rattle.mr_resp.specs.ReplyView.{view};
 ghost use Rattle.mr_entries.specs.Dataset.{Dataset as Map};
 ghost use Rattle.mr_cmd_set.specs.Moving.{smove, Gives};
 
-use crate::replies::set_at;
+use crate::finding::set_at;
+use mr_arguments::Argument;
+use mr_bytes::Word;
 use mr_data::{Effect, Entry};
-use mr_planning::{Effects, count, wrong_kind};
 use mr_resp::Reply;
-use mr_value::{SetValue, Word};
-use mr_words::Argument;
+use mr_room::{Effects, count, wrong_kind};
+use mr_value::SetValue;
 use std::alloc::{AllocError, Global};
 
 /// The answer, from the live entries at the source and at the target.

@@ -1,23 +1,28 @@
 // The plan of a command.
-ghost use Rattle.std.specs.Prelude.{IsTrue, IfOk};
+ghost use Rattle.std.specs.Prelude.{◌≡◌, true, IsTrue, IfOk};
 ghost use Rattle.std.specs.List.{list_all};
-ghost use Rattle.mr_value.specs.Words.{fits};
+ghost use Rattle.mr_bytes.specs.Words.{fits};
 ghost use Rattle.mr_resp.specs.ReplyView.{view};
 ghost use Rattle.mr_data.specs.Dataset.{IsDataset};
+ghost use Rattle.mr_entries.specs.Steps.{sets};
 ghost use Rattle.mr_cmd_set.specs.Carried.{set_words};
 ghost use Rattle.mr_cmd_set.specs.declared.set_ask.SetAsk.TheVariants as asks;
-ghost use Rattle.mr_planning.specs.Commands.{IsPlan, Plans, IsFaithful, HasCommandTexts};
-ghost use Rattle.mr_cmd_set.specs.SetCommands.{command, RestsOn};
+ghost use Rattle.mr_room.specs.Collections.{changing};
+ghost use Rattle.mr_room.specs.Commands.{on_key, IsPlan, Plans, IsFaithful, HasCommandTexts};
+ghost use Rattle.mr_cmd_set.specs.Sets.{Makes};
+ghost use Rattle.mr_cmd_set.specs.SetCommands.{command, RestsOn, is_on_one_key, change};
 
 use crate::combining::{combined, look_at_all};
+use crate::finding::set_at;
+use crate::grouping::{Write, write_members};
 use crate::moving::{moved, same};
 use crate::set_ask::{SetAsk, SetOperation};
-use crate::{changing, drawing, telling};
+use crate::{drawing, telling};
+use mr_arguments::{Argument, Words};
 use mr_data::{Dataset, Given, Plan};
-use mr_planning::{Effects, look, wrong_kind};
 use mr_resp::Reply;
+use mr_room::{Effects, look, wrong_kind};
 use mr_value::SetValue;
-use mr_words::{Argument, Words};
 use std::alloc::{AllocError, Global};
 
 /// What a command is answered, and its effects. The dataset isn't changed, and the plan owns what it holds.
@@ -66,16 +71,14 @@ fn reply_to(
     ensures rests { RestsOn ask.now held.now }
 {
     match ask {
-        SetAsk::SAdd { key, members } => sadd(alloc, held, key, members, given, effects),
-        SetAsk::SRem { key, members } => srem(alloc, held, key, members, given, effects),
-        SetAsk::SIsMember { key, member } => sismember(alloc, held, key, member, given, effects),
-        SetAsk::SMIsMember { key, members } => smismember(
-            alloc, held, key, members, given, effects,
-        ),
-        SetAsk::SMembers { key } => smembers(alloc, held, key, given, effects),
-        SetAsk::SCard { key } => scard(alloc, held, key, given, effects),
-        SetAsk::SPop { key, count } => spop(alloc, held, key, *count, given, effects),
-        SetAsk::SRandMember { key, count } => srandmember(alloc, held, key, *count, given, effects),
+        SetAsk::SAdd { key, .. } => at_key(alloc, held, key, ask, given, effects),
+        SetAsk::SRem { key, .. } => at_key(alloc, held, key, ask, given, effects),
+        SetAsk::SIsMember { key, .. } => at_key(alloc, held, key, ask, given, effects),
+        SetAsk::SMIsMember { key, .. } => at_key(alloc, held, key, ask, given, effects),
+        SetAsk::SMembers { key } => at_key(alloc, held, key, ask, given, effects),
+        SetAsk::SCard { key } => at_key(alloc, held, key, ask, given, effects),
+        SetAsk::SPop { key, .. } => at_key(alloc, held, key, ask, given, effects),
+        SetAsk::SRandMember { key, .. } => at_key(alloc, held, key, ask, given, effects),
         SetAsk::SMove { from, to, member } => {
             smove(alloc, held, from, to, member, given, effects)
         }
@@ -85,131 +88,54 @@ fn reply_to(
     }
 }
 
-/// What `SADD` is answered. Its effects are put behind those that are there.
-fn sadd(
+/// What a command on one key is answered. Its effects are put behind those that are there.
+fn at_key(
     alloc: Global,
     held: &Dataset,
     key: &Argument<'_>,
-    members: &Words<'_, '_>,
+    ask: &SetAsk<'_, '_>,
     given: Given,
     effects: &mut Effects,
 ) -> Result<Reply, AllocError>
-    ensures reply { IfOk result (λ r. Plans (command (asks.SAdd key.now members.now) given.word) given.now held.now (view r) effects.old effects.new) }
+    requires { is_on_one_key ask.now ≡ true }
+    ensures reply { IfOk result (λ r. Plans (on_key key.now (changing sets (change ask.now given.word))) given.now held.now (view r) effects.old effects.new) }
     ensures kept { IsDataset held.now }
 {
     let live_entry = look(alloc, held, key, given, effects)?;
-    changing::sadd(alloc, key, members, live_entry, effects)
+    let empty = SetValue::new(alloc);
+    let Some(set) = set_at(live_entry, &empty) else {
+        return Ok(wrong_kind());
+    };
+    change(alloc, ask, set, given.word(), effects)
 }
 
-/// What `SREM` is answered. Its effects are put behind those that are there.
-fn srem(
+/// What a command on one key is answered by the set there, and by a random word. Its effects are put behind those that
+/// are there.
+fn change(
     alloc: Global,
-    held: &Dataset,
-    key: &Argument<'_>,
-    members: &Words<'_, '_>,
-    given: Given,
+    ask: &SetAsk<'_, '_>,
+    set: &SetValue,
+    word: u64,
     effects: &mut Effects,
 ) -> Result<Reply, AllocError>
-    ensures reply { IfOk result (λ r. Plans (command (asks.SRem key.now members.now) given.word) given.now held.now (view r) effects.old effects.new) }
-    ensures kept { IsDataset held.now }
+    requires { is_on_one_key ask.now ≡ true }
+    ensures { IfOk result (λ r. Makes (change ask.now word set.now) (view r) effects.old effects.new) }
 {
-    let live_entry = look(alloc, held, key, given, effects)?;
-    changing::srem(alloc, key, members, live_entry, effects)
-}
-
-/// What `SISMEMBER` is answered. The DEL of an expired key is put behind the effects that are there.
-fn sismember(
-    alloc: Global,
-    held: &Dataset,
-    key: &Argument<'_>,
-    member: &Argument<'_>,
-    given: Given,
-    effects: &mut Effects,
-) -> Result<Reply, AllocError>
-    ensures reply { IfOk result (λ r. Plans (command (asks.SIsMember key.now member.now) given.word) given.now held.now (view r) effects.old effects.new) }
-    ensures kept { IsDataset held.now }
-{
-    let live_entry = look(alloc, held, key, given, effects)?;
-    Ok(telling::sismember(alloc, member, live_entry))
-}
-
-/// What `SMISMEMBER` is answered. The DEL of an expired key is put behind the effects that are there.
-fn smismember(
-    alloc: Global,
-    held: &Dataset,
-    key: &Argument<'_>,
-    members: &Words<'_, '_>,
-    given: Given,
-    effects: &mut Effects,
-) -> Result<Reply, AllocError>
-    ensures reply { IfOk result (λ r. Plans (command (asks.SMIsMember key.now members.now) given.word) given.now held.now (view r) effects.old effects.new) }
-    ensures kept { IsDataset held.now }
-{
-    let live_entry = look(alloc, held, key, given, effects)?;
-    telling::smismember(alloc, members, live_entry)
-}
-
-/// What `SMEMBERS` is answered. The DEL of an expired key is put behind the effects that are there.
-fn smembers(
-    alloc: Global,
-    held: &Dataset,
-    key: &Argument<'_>,
-    given: Given,
-    effects: &mut Effects,
-) -> Result<Reply, AllocError>
-    ensures reply { IfOk result (λ r. Plans (command (asks.SMembers key.now) given.word) given.now held.now (view r) effects.old effects.new) }
-    ensures kept { IsDataset held.now }
-{
-    let live_entry = look(alloc, held, key, given, effects)?;
-    telling::smembers(alloc, live_entry)
-}
-
-/// What `SCARD` is answered. The DEL of an expired key is put behind the effects that are there.
-fn scard(
-    alloc: Global,
-    held: &Dataset,
-    key: &Argument<'_>,
-    given: Given,
-    effects: &mut Effects,
-) -> Result<Reply, AllocError>
-    ensures reply { IfOk result (λ r. Plans (command (asks.SCard key.now) given.word) given.now held.now (view r) effects.old effects.new) }
-    ensures kept { IsDataset held.now }
-{
-    let live_entry = look(alloc, held, key, given, effects)?;
-    Ok(telling::scard(alloc, live_entry))
-}
-
-/// What `SPOP` is answered, by the random word that is given. Its effects are put behind those that are there.
-fn spop(
-    alloc: Global,
-    held: &Dataset,
-    key: &Argument<'_>,
-    count: Option<usize>,
-    given: Given,
-    effects: &mut Effects,
-) -> Result<Reply, AllocError>
-    ensures reply { IfOk result (λ r. Plans (command (asks.SPop key.now count) given.word) given.now held.now (view r) effects.old effects.new) }
-    ensures kept { IsDataset held.now }
-{
-    let live_entry = look(alloc, held, key, given, effects)?;
-    drawing::spop(alloc, key, count, given.word(), live_entry, effects)
-}
-
-/// What `SRANDMEMBER` is answered, by the random word that is given. The DEL of an expired key is put behind the
-/// effects that are there.
-fn srandmember(
-    alloc: Global,
-    held: &Dataset,
-    key: &Argument<'_>,
-    count: Option<usize>,
-    given: Given,
-    effects: &mut Effects,
-) -> Result<Reply, AllocError>
-    ensures reply { IfOk result (λ r. Plans (command (asks.SRandMember key.now count) given.word) given.now held.now (view r) effects.old effects.new) }
-    ensures kept { IsDataset held.now }
-{
-    let live_entry = look(alloc, held, key, given, effects)?;
-    drawing::srandmember(alloc, count, given.word(), live_entry)
+    match ask {
+        SetAsk::SAdd { key, members } => {
+            write_members(alloc, Write::Add, key, members, set, effects)
+        }
+        SetAsk::SRem { key, members } => {
+            write_members(alloc, Write::Remove, key, members, set, effects)
+        }
+        SetAsk::SIsMember { key: _, member } => Ok(telling::sismember(member, set)),
+        SetAsk::SMIsMember { key: _, members } => telling::smismember(alloc, members, set),
+        SetAsk::SMembers { key: _ } => telling::smembers(alloc, set),
+        SetAsk::SCard { key: _ } => Ok(telling::scard(set)),
+        SetAsk::SPop { key, count } => drawing::spop(alloc, key, *count, word, set, effects),
+        SetAsk::SRandMember { key: _, count } => drawing::srandmember(alloc, *count, word, set),
+        SetAsk::SMove { .. } | SetAsk::Combine { .. } => unreachable!(),
+    }
 }
 
 /// What `SMOVE` is answered. Its effects are put behind those that are there.

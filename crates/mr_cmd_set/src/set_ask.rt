@@ -1,5 +1,5 @@
 // Commands on sets, with their arguments.
-use mr_words::{Argument, Words};
+use mr_arguments::{Argument, Words};
 
 /// A command on sets, with its arguments.
 #[derive(Drop)]

@@ -1,5 +1,5 @@
 -- What commands on strings tell of what others left.
-use Rattle.std.proofs.Common.{ℕ, ℤ, pos, ◌+ℤ◌, ◌≡◌, ◌≤◌, ◌<◌, ◌+◌, ◌-◌, List, [], ◌∷◌, ◌++◌, length, take, drop, map, replicate, length-append, length-take, length-drop, append_assoc, true, false, Option, Some, None, refl, sym, ◌∙◌, ap, arith}
+use Rattle.std.proofs.Common.{ℕ, pos, ◌+ℤ◌, ◌≡◌, ◌≤◌, ◌<◌, ◌+◌, ◌-◌, List, [], ◌∷◌, ◌++◌, length, take, drop, map, replicate, length-append, length-take, length-drop, append_assoc, true, false, Option, Some, None, refl, sym, ◌∙◌, ap, arith}
 use Rattle.std.specs.Prelude.{◌≢◌, codes, slice_range, if◌then◌else◌}
 use Rattle.std.specs.Int.{int_min, int_max}
 use Rattle.std.specs.Fmt.{signed_decimal}
@@ -8,11 +8,11 @@ use Rattle.std.proofs.lemmas.Bool.{ne_eqb}
 use Rattle.std.proofs.lemmas.Int.{ints, clamps}
 use Rattle.std.proofs.lemmas.List.{length-replicate, take_at, drop_at}
 use Rattle.mr_map.specs.Bytes.{Bytes}
-use Rattle.mr_value.specs.Number.{is_i64, number_of}
-use Rattle.mr_value.specs.Texts.{overwritten}
-use Rattle.mr_value.specs.Window.{place_of, window_of, windowed}
-use Rattle.mr_value.specs.Words.{fits}
-use Rattle.mr_value.proofs.Windows.{some_window}
+use Rattle.mr_bytes.specs.Number.{is_i64, number_of}
+use Rattle.mr_bytes.specs.Texts.{overwritten}
+use Rattle.mr_bytes.specs.Window.{place_of, window_of, windowed}
+use Rattle.mr_bytes.specs.Words.{fits}
+use Rattle.mr_bytes.proofs.Windows.{some_window}
 use Rattle.mr_resp.specs.Replies as reply
 use Rattle.mr_resp.specs.Replies.{Tree}
 use Rattle.mr_resp.specs.ReplyView.{trees_of}
@@ -21,7 +21,7 @@ use Rattle.mr_entries.specs.Steps.{texts as strings, held, text_of}
 use Rattle.mr_entries.specs.declared.value.Value.{Value}
 use Rattle.mr_entries.specs.declared.value.Value.TheVariants as value
 use Rattle.mr_entries.specs.declared.value.Entry.{Entry}
-use Rattle.mr_planning.specs.Answered.{kept, wrong_kind}
+use Rattle.mr_room.specs.Answered.{kept, wrong_kind}
 use Rattle.mr_cmd_string.specs.Texts.{get_reply, strlen_reply, getrange_reply, found, text_or_null, of_value}
 use Rattle.mr_cmd_string.specs.Setting.{holds_other, is_other}
 use Rattle.mr_cmd_string.specs.Changing.{rewritten, length_of, too_long, lengthened, appended, put_over, overflow, increase_from, increase_text}

@@ -4,18 +4,18 @@ use Rattle.std.specs.Prelude.{IfOk, IsPermutation, Ok, if◌then◌else◌}
 use Rattle.std.specs.Fmt.{signed_decimal}
 use Rattle.std.proofs.lemmas.List.Sorted.{IsPermutation-refl, IsPermutation-middle, IsPermutation-append_left}
 use Rattle.std.specs.Option.{is_some, ok_or}
-use Rattle.mr_words.specs.Parts.{with}
+use Rattle.mr_arguments.specs.Parts.{with}
 use Rattle.mr_cmd_string.specs.Options.{set_text, unit_text, set_option, unit_of, no_set_options, before_also, lifetime_also, set_also, set_word, until, set_options, number_then}
 use Rattle.mr_cmd_string.specs.Parts.{lifetime_if_any, seconds, milliseconds}
 use Rattle.mr_cmd_string.specs.Arguments.{get, set, setex, psetex, strlen, getrange, mget, setnx, getset, getdel, mset, msetnx, append, setrange, step, incrby, decrby}
-use Rattle.mr_words.specs.Spelling.{Part, Word, Keyword, AreParts, in_a_row}
+use Rattle.mr_arguments.specs.Spelling.{Part, Word, Keyword, AreParts, in_a_row}
 use Rattle.mr_cmd_string.specs.Spelled.{condition_option, reply_option, TextSpells}
-use Rattle.mr_words.proofs.FitLemmas.{all_words}
-use Rattle.mr_words.proofs.PartLemmas.{with_ok, if_with, with_integer, with_offset, with_pairs, number_part, is_number_part}
+use Rattle.mr_arguments.proofs.FitLemmas.{all_words}
+use Rattle.mr_arguments.proofs.PartLemmas.{with_ok, if_with, with_integer, with_offset, with_pairs, number_part, is_number_part}
 use Rattle.mr_cmd_string.proofs.PartLemmas.{option_text, unit_named, with_opposite, lifetime_words, lifetime_read, seconds_read, milliseconds_read}
-use Rattle.mr_words.proofs.OptionLemmas.{Adds, one_first, from_none}
-use Rattle.mr_words.specs.declared.name.Name.TheVariants as name
-use Rattle.mr_words.specs.declared.fault.AskFault.TheVariants.{Arity, Syntax}
+use Rattle.mr_arguments.proofs.OptionLemmas.{Adds, one_first, from_none}
+use Rattle.mr_arguments.specs.declared.name.Name.TheVariants as name
+use Rattle.mr_arguments.specs.declared.fault.AskFault.TheVariants.{Arity, Syntax}
 use Rattle.mr_cmd_string.specs.declared.text_ask.Amount.TheVariants as amount
 use Rattle.mr_cmd_string.specs.declared.text_ask.SetCondition.{SetCondition}
 use Rattle.mr_cmd_string.specs.declared.text_ask.SetReply.{SetReply}

@@ -6,10 +6,11 @@ use Rattle.std.specs.FinMap.{get}
 use Rattle.std.specs.Fmt.{signed_decimal}
 use Rattle.std.proofs.lemmas.Bool.{lt-ltb, le-leb}
 use Rattle.mr_map.specs.Bytes.{Bytes}
-use Rattle.mr_value.specs.Number.{is_i64, number_of}
-use Rattle.mr_value.specs.Texts.{overwritten}
-use Rattle.mr_value.specs.Words.{fits, word_limit}
-use Rattle.mr_value.proofs.Texts.{ends_within}
+use Rattle.mr_bytes.specs.Number.{is_i64, number_of}
+use Rattle.mr_bytes.specs.Texts.{overwritten}
+use Rattle.mr_inline.specs.Limits.{word_limit}
+use Rattle.mr_bytes.specs.Words.{fits}
+use Rattle.mr_bytes.proofs.Texts.{ends_within}
 use Rattle.mr_resp.specs.Replies as reply
 use Rattle.mr_resp.specs.Replies.{Tree}
 use Rattle.mr_effect.specs.Effects.{is_place}
@@ -24,7 +25,7 @@ use Rattle.mr_entries.specs.declared.value.Value.TheVariants as value
 use Rattle.mr_entries.specs.declared.value.Entry.{Entry}
 use Rattle.mr_entries.proofs.Puts.{put_same}
 use Rattle.mr_data.proofs.Running.{one_step}
-use Rattle.mr_planning.proofs.Laws.{IsFaithfulAnswer, stays_faithful, none_short, one_short}
+use Rattle.mr_room.proofs.Laws.{IsFaithfulAnswer, stays_faithful, none_short, one_short}
 use Rattle.mr_cmd_string.specs.Changing.{holds, rewritten, length_of, too_long, lengthened, appended, append_answer, put_over, setrange_answer, overflow, increase_from, increase_text, increase_answer}
 use Rattle.mr_cmd_string.proofs.SameTexts.{is_this_text, bytes_itself, both}
 use Rattle.mr_effect.proofs.Texts.{short_effect}

@@ -1,10 +1,10 @@
 -- Answered is the fault that comes first among those that the arguments of SET have.
 use Rattle.std.proofs.Common.{ℕ, ◌≡◌, List, ◌∷◌, refl}
 use Rattle.std.specs.Prelude.{Result, Ok, Err}
-use Rattle.mr_words.specs.Parts.{with}
-use Rattle.mr_words.specs.FaultOrder.{counted, first_of, in_reading, answered_fault}
-use Rattle.mr_words.specs.declared.name.Name.TheVariants as name
-use Rattle.mr_words.specs.declared.fault.AskFault.{AskFault}
+use Rattle.mr_arguments.specs.Parts.{with}
+use Rattle.mr_arguments.specs.FaultOrder.{counted, first_of, in_reading, answered_fault}
+use Rattle.mr_arguments.specs.declared.name.Name.TheVariants as name
+use Rattle.mr_arguments.specs.declared.fault.AskFault.{AskFault}
 use Rattle.mr_cmd_string.specs.Options.{no_set_options, set_options}
 use Rattle.mr_cmd_string.specs.Parts.{lifetime_if_any}
 use Rattle.mr_cmd_string.specs.ArgumentFaults.{in_set_options, key_value_options}

@@ -1,7 +1,7 @@
 -- An option of SET with too few words behind it.
 use Rattle.std.proofs.Common.{arith, ℕ, ◌≡◌, ◌<◌, List, [], ◌∷◌, length, map, Option, refl}
 use Rattle.std.specs.Prelude.{Err}
-use Rattle.mr_words.specs.declared.fault.AskFault.TheVariants.{Syntax}
+use Rattle.mr_arguments.specs.declared.fault.AskFault.TheVariants.{Syntax}
 use Rattle.mr_cmd_string.specs.Options.{number_then}
 use Rattle.mr_expiry.specs.declared.expiry.ExpiryUnit.{ExpiryUnit}
 use Rattle.mr_cmd_string.specs.declared.options.SetOptions.{SetOptions}

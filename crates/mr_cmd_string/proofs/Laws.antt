@@ -6,7 +6,7 @@ use Rattle.std.specs.List.{list_all}
 use Rattle.std.specs.Option.{option_and_then}
 use Rattle.std.specs.FinMap.{get}
 use Rattle.mr_map.specs.Bytes.{Bytes}
-use Rattle.mr_value.specs.Words.{fits}
+use Rattle.mr_bytes.specs.Words.{fits}
 use Rattle.mr_resp.specs.Replies as reply
 use Rattle.mr_resp.specs.Replies.{Tree}
 use Rattle.mr_resp.specs.ReplyView.{trees_of}
@@ -33,10 +33,10 @@ use Rattle.mr_cmd_string.specs.declared.text_ask.TextAsk.TheVariants as ask
 use Rattle.mr_cmd_string.specs.declared.text_ask.SetCondition.{SetCondition}
 use Rattle.mr_cmd_string.specs.declared.text_ask.SetReply.{SetReply}
 use Rattle.mr_cmd_string.specs.declared.text_ask.SetReply.TheVariants as asked
-use Rattle.mr_planning.specs.Answered.{Answered, done}
-use Rattle.mr_planning.specs.Commands.{IsFaithful, on_key, HasCommandTexts}
+use Rattle.mr_room.specs.Answered.{Answered, done}
+use Rattle.mr_room.specs.Commands.{IsFaithful, on_key, HasCommandTexts}
 use Rattle.mr_entries.proofs.Puts.{put_same}
-use Rattle.mr_planning.proofs.Laws.{IsFaithfulAnswer, kept_faithful, stays_faithful, if_faithful, by_answer, by_telling, keys_answered, IsLawful, none_short, one_short}
+use Rattle.mr_room.proofs.Laws.{IsFaithfulAnswer, kept_faithful, stays_faithful, if_faithful, by_answer, by_telling, keys_answered, IsLawful, none_short, one_short}
 use Rattle.mr_cmd_string.specs.Texts.{get_reply, strlen_reply, getrange_reply, found}
 use Rattle.mr_cmd_string.specs.Setting.{said_at, until, set_effect, text_until, holds_until, put, plain, allows, holds_other, set_answer, set_for_answer, setnx_answer, getset_answer, taken, getdel_answer}
 use Rattle.mr_cmd_string.specs.declared.deadlines.NewDeadline.{NewDeadline}

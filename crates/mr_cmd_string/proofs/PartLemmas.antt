@@ -1,23 +1,23 @@
 -- What was read of an argument is what its word spells.
-use Rattle.mr_words.proofs.PartLemmas.{with_ok, number_part, number_part_read, found_passes, ok_found, not_below_1_is}
+use Rattle.mr_arguments.proofs.PartLemmas.{with_ok, number_part, number_part_read, found_passes, ok_found, not_below_1_is}
 use Rattle.std.proofs.Common.{ℕ, ℤ, ◌≡◌, List, [], ◌∷◌, true, false, Option, Some, None, sym, ◌∙◌, ap}
 use Rattle.std.specs.Prelude.{neg_ℤ, IfOk, if◌then◌else◌, Result, Ok, Err}
 use Rattle.std.specs.Option.{ok_or}
 use Rattle.std.proofs.Math.IntN.{neg_ℤ-neg_ℤ}
-use Rattle.mr_value.specs.Number.{is_i64}
-use Rattle.mr_value.proofs.Numbers.{same_bytes}
-use Rattle.mr_words.specs.Names.{lowered}
-use Rattle.mr_words.specs.Parts.{with, integer, not_below_1}
+use Rattle.mr_bytes.specs.Number.{is_i64}
+use Rattle.mr_bytes.proofs.Numbers.{same_bytes}
+use Rattle.mr_arguments.specs.Names.{lowered}
+use Rattle.mr_arguments.specs.Parts.{with, integer, not_below_1}
 use Rattle.mr_cmd_string.specs.Parts.{opposite, seconds, milliseconds, set_expiry, lifetime_if_any}
 use Rattle.mr_expiry.specs.Expiry.{within_limit, said, number_said}
 use Rattle.mr_expiry.specs.Amounts.{is_amount, of_seconds, seconds_of, milliseconds_of}
 use Rattle.mr_cmd_string.specs.Options.{set_text, unit_text, is_set_option, all_set_options, set_option, is_unit, all_units, unit_of}
-use Rattle.mr_words.specs.Spelling.{Part, Number, Keyword}
+use Rattle.mr_arguments.specs.Spelling.{Part, Number, Keyword}
 use Rattle.mr_cmd_string.specs.Spelled.{lifetime_option}
-use Rattle.mr_words.specs.declared.fault.AskFault.{AskFault}
-use Rattle.mr_words.specs.declared.fault.AskFault.TheVariants.{Syntax, ExpireTime, Other}
-use Rattle.mr_words.specs.declared.fault.BadValue.TheVariants as bad
-use Rattle.mr_words.specs.declared.fault.ExpiringCommand.TheVariants.{Set, SetEx, PSetEx}
+use Rattle.mr_arguments.specs.declared.fault.AskFault.{AskFault}
+use Rattle.mr_arguments.specs.declared.fault.AskFault.TheVariants.{Syntax, ExpireTime, Other}
+use Rattle.mr_arguments.specs.declared.fault.BadValue.TheVariants as bad
+use Rattle.mr_arguments.specs.declared.fault.ExpiringCommand.TheVariants.{Set, SetEx, PSetEx}
 use Rattle.mr_expiry.specs.declared.expiry.Expiry.{Expiry}
 use Rattle.mr_expiry.specs.declared.expiry.ExpiryUnit.{ExpiryUnit}
 use Rattle.mr_cmd_string.specs.declared.text_ask.Lifetime.{Lifetime}

@@ -3,16 +3,16 @@ use Rattle.std.proofs.Common.{ℕ, ◌≡◌, ◌⊎◌, List, [], ◌∷◌, �
 use Rattle.std.specs.Prelude.{find, IsPermutation, Result, Ok}
 use Rattle.std.specs.Fmt.{signed_decimal}
 use Rattle.std.specs.Option.{is_some, ok_or}
-use Rattle.mr_value.proofs.Numbers.{number_of-signed_decimal}
-use Rattle.mr_words.specs.Options.{added}
-use Rattle.mr_words.specs.Parts.{with}
-use Rattle.mr_words.specs.Spelling.{Part, Keyword, IsPart, AreParts, in_a_row, Word}
-use Rattle.mr_words.proofs.OrderLemmas.{twice_refused}
-use Rattle.mr_words.proofs.OrderedLemmas.{any_order}
-use Rattle.mr_words.proofs.PartLemmas.{number_part}
-use Rattle.mr_words.proofs.ReadLemmas.{from_one, number_part_of, number_part_only, one_part, two_parts, two_first}
-use Rattle.mr_words.specs.declared.fault.AskFault.{AskFault}
-use Rattle.mr_words.specs.declared.fault.AskFault.TheVariants.{Syntax}
+use Rattle.mr_bytes.proofs.Numbers.{number_of-signed_decimal}
+use Rattle.mr_arguments.specs.Options.{added}
+use Rattle.mr_arguments.specs.Parts.{with}
+use Rattle.mr_arguments.specs.Spelling.{Part, Keyword, IsPart, AreParts, in_a_row, Word}
+use Rattle.mr_arguments.proofs.OrderLemmas.{twice_refused}
+use Rattle.mr_arguments.proofs.OrderedLemmas.{any_order}
+use Rattle.mr_arguments.proofs.PartLemmas.{number_part}
+use Rattle.mr_arguments.proofs.ReadLemmas.{from_one, number_part_of, number_part_only, one_part, two_parts, two_first}
+use Rattle.mr_arguments.specs.declared.fault.AskFault.{AskFault}
+use Rattle.mr_arguments.specs.declared.fault.AskFault.TheVariants.{Syntax}
 use Rattle.mr_cmd_string.specs.Askable.{IsLifetime, TextIsAskable}
 use Rattle.mr_expiry.specs.Expiry.{number_said, unit_said}
 use Rattle.mr_cmd_string.specs.Options.{all_set_options, all_units, is_set_option, is_unit, lifetime_also, no_set_options, set_also, set_options, set_text, unit_of, unit_text, until}

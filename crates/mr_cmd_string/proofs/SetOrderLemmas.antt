@@ -2,10 +2,10 @@
 use Rattle.std.proofs.Common.{ℕ, ◌≡◌, List, [], ◌∷◌, ◌++◌, Bool, true, Option, Some, None, refl, sym, ◌∙◌, ap, append_assoc}
 use Rattle.std.specs.Prelude.{Result, Ok, Err, if◌then◌else◌}
 use Rattle.std.specs.Option.{is_some, ok_or}
-use Rattle.mr_words.specs.Parts.{with}
-use Rattle.mr_words.proofs.OrderLemmas.{with_joined, with_same, OnlySyntax, second_refused, words_alike, two_alike, twice_refused, unless, only_found}
-use Rattle.mr_words.specs.declared.fault.AskFault.{AskFault}
-use Rattle.mr_words.specs.declared.fault.AskFault.TheVariants.{Syntax}
+use Rattle.mr_arguments.specs.Parts.{with}
+use Rattle.mr_arguments.proofs.OrderLemmas.{with_joined, with_same, OnlySyntax, second_refused, words_alike, two_alike, twice_refused, unless, only_found}
+use Rattle.mr_arguments.specs.declared.fault.AskFault.{AskFault}
+use Rattle.mr_arguments.specs.declared.fault.AskFault.TheVariants.{Syntax}
 use Rattle.mr_cmd_string.specs.Options.{AreOneOption, before_also, lifetime_also, number_then, set_also, set_option, set_options, set_word, unit_of, until}
 use Rattle.mr_expiry.specs.declared.expiry.ExpiryUnit.{ExpiryUnit}
 use Rattle.mr_cmd_string.specs.declared.options.LifetimeOption.{LifetimeOption}

@@ -12,7 +12,7 @@ use Rattle.std.proofs.lemmas.Cmp.{nat_list_cmp_total}
 use Rattle.std.proofs.lemmas.List.Elements.{All-nil, All-cons}
 use Rattle.std.proofs.lemmas.Map.Lookups.{exact_bytes}
 use Rattle.mr_map.specs.Bytes.{Bytes, ByteMap, bytes_cmp}
-use Rattle.mr_value.specs.Words.{fits}
+use Rattle.mr_bytes.specs.Words.{fits}
 use Rattle.mr_resp.specs.Replies as reply
 use Rattle.mr_resp.specs.Replies.{Tree}
 use Rattle.mr_effect.specs.Effects.{pair_fits}
@@ -23,13 +23,13 @@ use Rattle.mr_data.specs.Meaning.{apply, apply_all}
 use Rattle.mr_entries.specs.declared.value.Entry.{Entry}
 use Rattle.mr_data.proofs.Fitting.{no_fields, with_fields_fit}
 use Rattle.mr_entries.proofs.Maps.{insert_same, same_key}
-use Rattle.mr_words.specs.Pairing.{unpaired}
-use Rattle.mr_planning.specs.Taken.{is_key}
-use Rattle.mr_planning.specs.Answered.{done}
-use Rattle.mr_planning.specs.Outcomes.{answered}
-use Rattle.mr_planning.specs.Commands.{Command, on_keys, before, IsFaithful, HasCommandTexts}
+use Rattle.mr_arguments.specs.Pairing.{unpaired}
+use Rattle.mr_room.specs.Taken.{is_key}
+use Rattle.mr_room.specs.Answered.{done}
+use Rattle.mr_room.specs.Outcomes.{answered}
+use Rattle.mr_room.specs.Commands.{Command, on_keys, before, IsFaithful, HasCommandTexts}
 use Rattle.mr_entries.proofs.Puts.{is_key_itself, is_key_symm}
-use Rattle.mr_planning.proofs.Laws.{answered_faithful, IsLeadingAt, leading_at, leading, sent, none_short, one_short}
+use Rattle.mr_room.proofs.Laws.{answered_faithful, IsLeadingAt, leading_at, leading, sent, none_short, one_short}
 use Rattle.mr_cmd_string.specs.Setting.{plain, is_plain}
 use Rattle.mr_cmd_string.specs.SettingAll.{names, last_texts, changed, set_effects, put_all, mset, is_any_there, msetnx}
 use Rattle.mr_cmd_string.specs.Laws.{MSetIsNoLonger, MSetNxIsNoLonger}

@@ -8,12 +8,12 @@ use Rattle.std.proofs.lemmas.Bool.{lt-ltb}
 use Rattle.std.proofs.lemmas.List.{length-replicate, take-append-drop, append_cancel_left, append_cancel_right}
 use Rattle.std.proofs.lemmas.List.Folds.{drop_split}
 use Rattle.mr_map.specs.Bytes.{Bytes}
-use Rattle.mr_value.specs.Number.{is_i64, number_of}
-use Rattle.mr_value.specs.Texts.{overwritten}
-use Rattle.mr_value.specs.Words.{fits}
+use Rattle.mr_bytes.specs.Number.{is_i64, number_of}
+use Rattle.mr_bytes.specs.Texts.{overwritten}
+use Rattle.mr_bytes.specs.Words.{fits}
 use Rattle.std.proofs.lemmas.Int.{ints}
-use Rattle.mr_value.proofs.Numbers.{number_of-signed_decimal}
-use Rattle.mr_value.proofs.Texts.{ends_within}
+use Rattle.mr_bytes.proofs.Numbers.{number_of-signed_decimal}
+use Rattle.mr_bytes.proofs.Texts.{ends_within}
 use Rattle.mr_resp.specs.Replies as reply
 use Rattle.mr_resp.specs.Replies.{Tree}
 use Rattle.mr_effect.specs.declared.effect.Effect.{Effect}
@@ -22,8 +22,8 @@ use Rattle.mr_entries.specs.Steps.{texts as strings, held, text_of}
 use Rattle.mr_entries.specs.declared.value.Value.{Value}
 use Rattle.mr_entries.specs.declared.value.Value.TheVariants as value
 use Rattle.mr_entries.specs.declared.value.Entry.{Entry}
-use Rattle.mr_planning.specs.Answered.{Takes}
-use Rattle.mr_planning.proofs.PlanLemmas.{takes_reply}
+use Rattle.mr_room.specs.Answered.{Takes}
+use Rattle.mr_room.proofs.PlanLemmas.{takes_reply}
 use Rattle.mr_cmd_string.specs.Setting.{is_text}
 use Rattle.mr_cmd_string.specs.Changing.{holds, rewritten, length_of, too_long, lengthened, put_over, setrange_answer, overflow, increase_from, increase_text, increase_answer}
 use Rattle.mr_cmd_string.proofs.SameTexts.{same_bytes, bytes_itself}

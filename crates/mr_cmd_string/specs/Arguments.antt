@@ -1,14 +1,14 @@
 -- Commands on strings.
 use Rattle.std.specs.Prelude.{ℕ, List, [], ◌∷◌, Result, Ok, Err}
 use Rattle.std.specs.Option.{ok_or}
-use Rattle.mr_words.specs.Pairing.{pairs_of}
-use Rattle.mr_words.specs.Parts.{with, integer, offset}
+use Rattle.mr_arguments.specs.Pairing.{pairs_of}
+use Rattle.mr_arguments.specs.Parts.{with, integer, offset}
 use Rattle.mr_cmd_string.specs.Parts.{opposite, lifetime_if_any, seconds, milliseconds}
 use Rattle.mr_cmd_string.specs.Options.{no_set_options, set_options}
-use Rattle.mr_words.specs.declared.name.Name.{Name}
-use Rattle.mr_words.specs.declared.name.Name.TheVariants as name
-use Rattle.mr_words.specs.declared.fault.AskFault.{AskFault}
-use Rattle.mr_words.specs.declared.fault.AskFault.TheVariants.{Arity}
+use Rattle.mr_arguments.specs.declared.name.Name.{Name}
+use Rattle.mr_arguments.specs.declared.name.Name.TheVariants as name
+use Rattle.mr_arguments.specs.declared.fault.AskFault.{AskFault}
+use Rattle.mr_arguments.specs.declared.fault.AskFault.TheVariants.{Arity}
 use Rattle.mr_cmd_string.specs.declared.text_ask.TextAsk.{TextAsk}
 use Rattle.mr_cmd_string.specs.declared.text_ask.TextAsk.TheVariants as ask
 use Rattle.mr_cmd_string.specs.declared.text_ask.Amount.{Amount}

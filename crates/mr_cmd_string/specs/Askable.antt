@@ -1,6 +1,6 @@
 -- Which commands on strings words can ask for.
 use Rattle.std.specs.Prelude.{◌≢◌, pos, neg_ℤ, [], int_le, IsTrue}
-use Rattle.mr_words.specs.Askable.{IsI64}
+use Rattle.mr_arguments.specs.Askable.{IsI64}
 use Rattle.mr_expiry.specs.Expiry.{number_said}
 use Rattle.mr_expiry.specs.declared.expiry.Expiry.{Expiry}
 use Rattle.mr_expiry.specs.declared.expiry.Expiry.TheVariants.{Seconds, Milliseconds}

@@ -1,6 +1,6 @@
 -- The words that a command on strings carries.
 use Rattle.std.specs.Prelude.{ℕ, pos, List, [], ◌∷◌, int_le, IsTrue}
-use Rattle.mr_words.specs.Pairing.{unpaired}
+use Rattle.mr_arguments.specs.Pairing.{unpaired}
 use Rattle.mr_expiry.specs.Expiry.{milliseconds}
 use Rattle.mr_expiry.specs.declared.expiry.Expiry.{Expiry}
 use Rattle.mr_expiry.specs.declared.expiry.Expiry.TheVariants.{Seconds, Milliseconds}

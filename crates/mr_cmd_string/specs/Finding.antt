@@ -5,7 +5,7 @@ use Rattle.std.specs.FinMap.{get}
 use Rattle.mr_map.specs.Bytes.{Bytes}
 use Rattle.mr_entries.specs.Dataset.{Dataset}
 use Rattle.mr_data.specs.Dataset.{live}
-use Rattle.mr_planning.specs.Keys.{is_stored}
+use Rattle.mr_room.specs.Keys.{is_stored}
 use Rattle.mr_cmd_string.specs.Setting.{is_plain}
 
 -- one of them is there and not expired

@@ -12,4 +12,5 @@ pub mod Changing
 pub mod SettingAll
 pub mod Finding
 pub mod Commands
+pub mod OneKey
 pub mod Laws

@@ -1,12 +1,12 @@
 -- What single arguments say.
-use Rattle.mr_words.specs.Parts.{with, integer, not_below_1}
+use Rattle.mr_arguments.specs.Parts.{with, integer, not_below_1}
 use Rattle.std.specs.Prelude.{ℕ, ℤ, pos, negsuc, neg_ℤ, List, if◌then◌else◌, Option, Some, None, Result, Ok, Err}
 use Rattle.std.specs.Option.{ok_or}
-use Rattle.mr_value.specs.Number.{is_i64}
-use Rattle.mr_words.specs.declared.fault.AskFault.{AskFault}
-use Rattle.mr_words.specs.declared.fault.AskFault.TheVariants.{ExpireTime, Other}
-use Rattle.mr_words.specs.declared.fault.BadValue.TheVariants as bad
-use Rattle.mr_words.specs.declared.fault.ExpiringCommand.TheVariants.{Set, SetEx, PSetEx}
+use Rattle.mr_bytes.specs.Number.{is_i64}
+use Rattle.mr_arguments.specs.declared.fault.AskFault.{AskFault}
+use Rattle.mr_arguments.specs.declared.fault.AskFault.TheVariants.{ExpireTime, Other}
+use Rattle.mr_arguments.specs.declared.fault.BadValue.TheVariants as bad
+use Rattle.mr_arguments.specs.declared.fault.ExpiringCommand.TheVariants.{Set, SetEx, PSetEx}
 use Rattle.mr_expiry.specs.Amounts.{seconds_of, milliseconds_of}
 use Rattle.mr_expiry.specs.declared.expiry.Expiry.{Expiry}
 use Rattle.mr_expiry.specs.declared.expiry.ExpiryUnit.{ExpiryUnit}

@@ -9,7 +9,7 @@ use Rattle.mr_entries.specs.Steps.{deadline_of}
 use Rattle.mr_entries.specs.declared.value.Value.{Value}
 use Rattle.mr_entries.specs.declared.value.Value.TheVariants as value
 use Rattle.mr_entries.specs.declared.value.Entry.{Entry}
-use Rattle.mr_planning.specs.Answered.{Answered, kept, wrong_kind, done}
+use Rattle.mr_room.specs.Answered.{Answered, kept, wrong_kind, done}
 use Rattle.mr_effect.specs.declared.effect.Effect.{Effect}
 use Rattle.mr_effect.specs.declared.effect.Effect.TheVariants as effect
 use Rattle.mr_expiry.specs.Expiry.{deadline_at}

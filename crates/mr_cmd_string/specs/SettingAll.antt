@@ -10,8 +10,8 @@ use Rattle.mr_effect.specs.declared.effect.Effect.TheVariants as effect
 use Rattle.mr_entries.specs.Dataset.{Dataset}
 use Rattle.mr_entries.specs.Collections.{with_fields}
 use Rattle.mr_entries.specs.Changes.{with_texts}
-use Rattle.mr_planning.specs.Answered.{done}
-use Rattle.mr_planning.specs.Outcomes.{Outcome, answered}
+use Rattle.mr_room.specs.Answered.{done}
+use Rattle.mr_room.specs.Outcomes.{Outcome, answered}
 use Rattle.mr_cmd_string.specs.Setting.{is_plain}
 
 -- the keys that pairs name

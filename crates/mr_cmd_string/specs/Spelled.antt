@@ -1,6 +1,6 @@
 -- The words that a command on strings is spelled by.
 use Rattle.std.specs.Prelude.{ℕ, pos, neg_ℤ, List, [], ◌∷◌, ◌++◌, map, Option, Some, None}
-use Rattle.mr_words.specs.Spelling.{Part, Word, Number, Keyword, AreParts, AreWithOptions, NameAndArguments}
+use Rattle.mr_arguments.specs.Spelling.{Part, Word, Number, Keyword, AreParts, AreWithOptions, NameAndArguments}
 use Rattle.mr_cmd_string.specs.Carried.{text_words}
 use Rattle.mr_expiry.specs.Expiry.{unit_said, number_said}
 use Rattle.mr_cmd_string.specs.Options.{set_text, unit_text}
@@ -14,7 +14,7 @@ use Rattle.mr_cmd_string.specs.declared.text_ask.Amount.{Amount}
 use Rattle.mr_cmd_string.specs.declared.text_ask.Amount.TheVariants as amount
 use Rattle.mr_cmd_string.specs.declared.text_ask.TextAsk.{TextAsk}
 use Rattle.mr_cmd_string.specs.declared.text_ask.TextAsk.TheVariants as text
-use Rattle.mr_words.specs.declared.name.Name.{Name}
+use Rattle.mr_arguments.specs.declared.name.Name.{Name}
 use Rattle.mr_cmd_string.specs.Called.{text_name}
 
 -- a number that is added, or its opposite that is taken away

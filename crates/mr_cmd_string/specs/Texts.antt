@@ -2,7 +2,7 @@
 use Rattle.std.specs.Prelude.{ℤ, pos, List, [], map, length, Option, Some, None}
 use Rattle.std.specs.FinMap.{get}
 use Rattle.mr_map.specs.Bytes.{Bytes}
-use Rattle.mr_value.specs.Window.{window_of, windowed}
+use Rattle.mr_bytes.specs.Window.{window_of, windowed}
 use Rattle.mr_resp.specs.Replies as reply
 use Rattle.mr_resp.specs.Replies.{Tree}
 use Rattle.mr_resp.specs.ReplyView.{trees_of}
@@ -11,8 +11,8 @@ use Rattle.mr_data.specs.Dataset.{live}
 use Rattle.mr_entries.specs.declared.value.Value.{Value}
 use Rattle.mr_entries.specs.declared.value.Value.TheVariants as value
 use Rattle.mr_entries.specs.declared.value.Entry.{Entry}
-use Rattle.mr_planning.specs.Answered.{Answered, kept, wrong_kind}
-use Rattle.mr_planning.specs.Outcomes.{Outcome, answered}
+use Rattle.mr_room.specs.Answered.{Answered, kept, wrong_kind}
+use Rattle.mr_room.specs.Outcomes.{Outcome, answered}
 
 -- ---- What a command tells of the text at a key. A value of another kind is refused.
 abbrev pub of_value : (Bytes → Tree) → Value → Tree

@@ -6,7 +6,7 @@ ghost use Rattle.mr_cmd_string.specs.Arguments.{get, set, setex, psetex, strlen,
 use crate::options::SetOptions;
 use crate::parts::{lifetime_if_any, milliseconds, opposite, seconds};
 use crate::text_ask::{Amount, TextAsk};
-use mr_words::{Argument, Arguments, AskFault, Name, Pairs, Words, integer, offset};
+use mr_arguments::{Argument, Arguments, AskFault, Name, Pairs, Words, integer, offset};
 
 type Reading<'a, 't> = Result<TextAsk<'a, 't>, AskFault>;
 

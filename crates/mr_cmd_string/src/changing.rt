@@ -3,17 +3,17 @@ ghost use Rattle.std.specs.Prelude.{◌≡◌, ◌==◌, ◌&&◌, ◌+◌, ◌<
 ghost use Rattle.std.specs.Ordering.{int_eq};
 ghost use Rattle.std.specs.Str.{bytes_eq};
 ghost use Rattle.mr_resp.specs.ReplyView.{view};
-ghost use Rattle.mr_value.specs.Texts.{overwritten};
+ghost use Rattle.mr_bytes.specs.Texts.{overwritten};
 ghost use Rattle.mr_entries.specs.Steps.{texts as strings, held};
-ghost use Rattle.mr_planning.specs.Answered.{Takes};
+ghost use Rattle.mr_room.specs.Answered.{Takes};
 ghost use Rattle.mr_cmd_string.specs.Changing.{append_answer, setrange_answer, increase_answer};
 
 use crate::replies::{no_integer, overflow, too_long};
+use mr_arguments::Argument;
+use mr_bytes::{Bytes, Word, read_i64};
 use mr_data::{Effect, Entry, Value};
-use mr_planning::{Effects, count, integer, wrong_kind};
 use mr_resp::Reply;
-use mr_value::{Bytes, Word, read_i64};
-use mr_words::Argument;
+use mr_room::{Effects, count, integer, wrong_kind};
 use std::alloc::{AllocError, Global};
 
 /// The text at a key: this one where nothing is there. None where the key holds another kind.

@@ -4,9 +4,9 @@ ghost use Rattle.mr_entries.specs.Steps.{deadline_of};
 ghost use Rattle.mr_cmd_string.specs.Setting.{said_at, until, set_effect, is_same};
 
 use crate::text_ask::Lifetime;
+use mr_arguments::Argument;
+use mr_bytes::Word;
 use mr_data::{Effect, Entry, Given};
-use mr_value::Word;
-use mr_words::Argument;
 use std::alloc::{AllocError, Global};
 
 /// What becomes of the deadline of a key that gets a text.

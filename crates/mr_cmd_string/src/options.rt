@@ -1,12 +1,12 @@
 // The options of SET, which stand in any order, each at most once.
 ghost use Rattle.std.specs.Prelude.{◌≡◌, ◌∷◌, ◌≤◌, Some, Err, IfErr, IfOk, find, length, map};
 ghost use Rattle.std.specs.Cow.{cow_slice_items};
-ghost use Rattle.mr_words.specs.Names.{lowered};
+ghost use Rattle.mr_arguments.specs.Names.{lowered};
 ghost use Rattle.mr_cmd_string.specs.Options.{set_option, is_set_option, unit_of, is_unit, no_set_options, set_also, until, set_options, number_then};
 
 use crate::text_ask::{SetCondition, SetReply};
+use mr_arguments::{Argument, Arguments, AskFault};
 use mr_expiry::ExpiryUnit;
-use mr_words::{Argument, Arguments, AskFault};
 use std::borrow::CowSlice;
 
 /// An option of `SET` that is one word.

@@ -1,29 +1,26 @@
 // The plan of a command on strings.
-ghost use Rattle.std.specs.Prelude.{◌≡◌, ◌<◌, length, IfOk, IsTrue};
+ghost use Rattle.std.specs.Prelude.{◌≡◌, ◌<◌, length, IfOk, IsTrue, option_copied};
 ghost use Rattle.std.specs.List.{list_all};
-ghost use Rattle.mr_value.specs.Number.{is_i64};
-ghost use Rattle.mr_value.specs.Words.{fits};
+ghost use Rattle.mr_bytes.specs.Words.{fits};
 ghost use Rattle.mr_resp.specs.ReplyView.{view};
 ghost use Rattle.mr_resp.specs.Usual.{commands};
 ghost use Rattle.mr_data.specs.Given.{IsMoment};
 ghost use Rattle.mr_cmd_string.specs.Carried.{text_words, IsTimed};
-ghost use Rattle.mr_planning.specs.Commands.{IsPlan, Plans, IsFaithful, HasCommandTexts, on_key, on_keys};
+ghost use Rattle.mr_room.specs.Answered.{Takes};
+ghost use Rattle.mr_room.specs.Commands.{IsPlan, Plans, IsFaithful, HasCommandTexts, on_key};
 ghost use Rattle.mr_cmd_string.specs.Commands.{command, HasNumber, HasLimit};
-ghost use Rattle.mr_cmd_string.specs.Texts.{get_answer, strlen_answer, getrange_answer, texts};
-ghost use Rattle.mr_cmd_string.specs.Setting.{said_at, set_answer, set_for_answer, setnx_answer, getset_answer, getdel_answer};
-ghost use Rattle.mr_cmd_string.specs.declared.text_ask.Lifetime.TheVariants.{Until};
-ghost use Rattle.mr_cmd_string.specs.Changing.{append_answer, setrange_answer, increase_answer};
+ghost use Rattle.mr_cmd_string.specs.OneKey.{is_on_one_key, lifetime_of, answer_of};
 
-use crate::deadlines::NewDeadline;
-use crate::setting::SetRules;
+use crate::changing::{append, increase, setrange};
+use crate::setting::{SetRules, getdel, getset, set, setnx};
 use crate::setting_all::{mset, msetnx};
 use crate::text_ask::{Lifetime, SetReply, TextAsk};
-use crate::{changing, setting, texts};
-use mr_data::{Dataset, Given, Plan};
+use crate::texts::{get, getrange, mget, strlen};
+use mr_arguments::Argument;
+use mr_data::{Dataset, Entry, Given, Plan};
 use mr_expiry::Expiry;
-use mr_planning::{Effects, look, push_dels};
 use mr_resp::Reply;
-use mr_words::{Argument, Words};
+use mr_room::{Effects, look};
 use std::alloc::{AllocError, Global};
 
 /// What a command on strings is answered, and its effects. The dataset isn't changed, and the plan owns what it holds.
@@ -45,14 +42,15 @@ pub fn plan(
     // .. and their texts are command texts. (MSET's effect has as many words as its request at most.)
     ensures texts { IsTrue (list_all fits (text_words ask.now)) → IsTimed ask.now → length (text_words ask.now) < commands.words → HasCommandTexts (command ask.now given.now) given.now held.now }
 {
-    times_are_limited(ask, given);
+    numbers_are_limited(ask, given);
     planned(alloc, held, ask, given)
 }
 
-/// What a request says of time is within its limit, and so is the moment.
-fn times_are_limited(ask: &TextAsk<'_, '_>, given: Given)
+/// What a request says of time is within its limit, so is the moment, and a number that it adds has 64 bits.
+fn numbers_are_limited(ask: &TextAsk<'_, '_>, given: Given)
     ensures moment { IsMoment given.now }
     ensures limit { HasLimit ask.now }
+    ensures number { HasNumber ask.now }
 {
     let _now = given.now();
     match ask {
@@ -68,6 +66,9 @@ fn times_are_limited(ask: &TextAsk<'_, '_>, given: Given)
         TextAsk::PSetEx { milliseconds, .. } => {
             let _time = Expiry::Milliseconds(*milliseconds).milliseconds();
         }
+        TextAsk::Increase { by, .. } => {
+            let _number = by.number();
+        }
         _ => {}
     }
 }
@@ -79,8 +80,7 @@ fn planned(
     ask: &TextAsk<'_, '_>,
     given: Given,
 ) -> Result<Plan, AllocError>
-    ensures number { HasNumber ask.now }
-    ensures plan { IfOk result (λ p. IsPlan (command ask.now given.now) given.now held.now (view p.reply) p.effects.items) }
+    ensures { IfOk result (λ p. IsPlan (command ask.now given.now) given.now held.now (view p.reply) p.effects.items) }
 {
     let mut effects = Effects::new(alloc);
     let reply = reply_to(alloc, held, ask, given, &mut effects)?;
@@ -95,11 +95,56 @@ fn reply_to(
     given: Given,
     effects: &mut Effects,
 ) -> Result<Reply, AllocError>
-    ensures number { HasNumber ask.now }
-    ensures reply { IfOk result (λ r. Plans (command ask.now given.now) given.now held.now (view r) effects.old effects.new) }
+    ensures { IfOk result (λ r. Plans (command ask.now given.now) given.now held.now (view r) effects.old effects.new) }
 {
     match ask {
-        TextAsk::Get { key } => get(alloc, held, key, given, effects),
+        TextAsk::Get { key }
+        | TextAsk::Set { key, .. }
+        | TextAsk::SetEx { key, .. }
+        | TextAsk::PSetEx { key, .. }
+        | TextAsk::StrLen { key }
+        | TextAsk::GetRange { key, .. }
+        | TextAsk::SetNx { key, .. }
+        | TextAsk::GetSet { key, .. }
+        | TextAsk::GetDel { key }
+        | TextAsk::Append { key, .. }
+        | TextAsk::SetRange { key, .. }
+        | TextAsk::Increase { key, .. } => at_key(alloc, held, key, ask, given, effects),
+        TextAsk::MGet { keys } => mget(alloc, held, keys, given, effects),
+        TextAsk::MSet { pairs } => mset(alloc, held, pairs, given, effects),
+        TextAsk::MSetNx { pairs } => msetnx(alloc, held, pairs, given, effects),
+    }
+}
+
+/// What a command on one key is answered. Its effects are put behind those that are there.
+fn at_key(
+    alloc: Global,
+    held: &Dataset,
+    key: &Argument<'_>,
+    ask: &TextAsk<'_, '_>,
+    given: Given,
+    effects: &mut Effects,
+) -> Result<Reply, AllocError>
+    requires { IsTrue (is_on_one_key ask.now) }
+    ensures { IfOk result (λ r. Plans (on_key key.now (answer_of ask.now given.now)) given.now held.now (view r) effects.old effects.new) }
+{
+    let live_entry = look(alloc, held, key, given, effects)?;
+    answer_of(alloc, ask, live_entry, given, effects)
+}
+
+/// What a command on one key is answered by what that holds. Its effects are put behind those that are there.
+fn answer_of(
+    alloc: Global,
+    ask: &TextAsk<'_, '_>,
+    live_entry: Option<&Entry>,
+    given: Given,
+    effects: &mut Effects,
+) -> Result<Reply, AllocError>
+    requires { IsTrue (is_on_one_key ask.now) }
+    ensures { IfOk result (λ r. Takes (answer_of ask.now given.now (option_copied live_entry.entry)) (view r) effects.old effects.new) }
+{
+    match ask {
+        TextAsk::Get { .. } => get(alloc, live_entry),
         TextAsk::Set {
             key,
             value,
@@ -107,238 +152,37 @@ fn reply_to(
             reply,
             lifetime,
         } => {
-            let rules = SetRules {
-                condition: *condition,
-                reply: *reply,
-                deadline: NewDeadline::said(*lifetime, given),
-            };
-            set(alloc, held, key, value, rules, given, effects)
+            let rules = SetRules::said(*condition, *reply, *lifetime, given);
+            set(alloc, key, value, rules, live_entry, effects)
         }
-        TextAsk::SetEx {
-            key,
-            seconds,
-            value,
-        } => set_for(
-            alloc,
-            held,
-            key,
-            Expiry::Seconds(*seconds),
-            value,
-            given,
-            effects,
-        ),
-        TextAsk::PSetEx {
-            key,
-            milliseconds,
-            value,
-        } => set_for(
-            alloc,
-            held,
-            key,
-            Expiry::Milliseconds(*milliseconds),
-            value,
-            given,
-            effects,
-        ),
-        TextAsk::StrLen { key } => strlen(alloc, held, key, given, effects),
-        TextAsk::GetRange { key, first, last } => getrange(
-            alloc, held, key, *first, *last, given, effects,
-        ),
-        TextAsk::MGet { keys } => mget(alloc, held, keys, given, effects),
-        TextAsk::SetNx { key, value } => setnx(alloc, held, key, value, given, effects),
-        TextAsk::GetSet { key, value } => getset(alloc, held, key, value, given, effects),
-        TextAsk::GetDel { key } => getdel(alloc, held, key, given, effects),
-        TextAsk::MSet { pairs } => mset(alloc, held, pairs, given, effects),
-        TextAsk::MSetNx { pairs } => msetnx(alloc, held, pairs, given, effects),
-        TextAsk::Append { key, value } => append(alloc, held, key, value, given, effects),
+        TextAsk::SetEx { key, value, .. } | TextAsk::PSetEx { key, value, .. } => {
+            let rules = SetRules::said(None, SetReply::Done, lifetime_of(ask), given);
+            set(alloc, key, value, rules, live_entry, effects)
+        }
+        TextAsk::StrLen { .. } => Ok(strlen(live_entry)),
+        TextAsk::GetRange { first, last, .. } => getrange(alloc, *first, *last, live_entry),
+        TextAsk::SetNx { key, value } => setnx(alloc, key, value, live_entry, effects),
+        TextAsk::GetSet { key, value } => getset(alloc, key, value, live_entry, effects),
+        TextAsk::GetDel { key } => getdel(alloc, key, live_entry, effects),
+        TextAsk::Append { key, value } => append(alloc, key, value, live_entry, effects),
         TextAsk::SetRange { key, offset, value } => {
-            setrange(alloc, held, key, *offset, value, given, effects)
+            setrange(alloc, key, *offset, value, live_entry, effects)
         }
-        TextAsk::Increase { key, by } => increase(alloc, held, key, by.number(), given, effects),
+        TextAsk::Increase { key, by } => increase(alloc, key, by.number(), live_entry, effects),
+        _ => unreachable!(),
     }
 }
 
-/// What `GET` is answered. The DEL of an expired key is put behind the effects that are there.
-fn get(
-    alloc: Global,
-    held: &Dataset,
-    key: &Argument<'_>,
-    given: Given,
-    effects: &mut Effects,
-) -> Result<Reply, AllocError>
-    ensures { IfOk result (λ r. Plans (on_key key.now get_answer) given.now held.now (view r) effects.old effects.new) }
+/// How long a text stays that a command sets.
+fn lifetime_of(ask: &TextAsk<'_, '_>) -> Lifetime
+    ensures { result ≡ lifetime_of ask.now }
 {
-    let live_entry = look(alloc, held, key, given, effects)?;
-    texts::get(alloc, live_entry)
-}
-
-/// What `STRLEN` is answered. The DEL of an expired key is put behind the effects that are there.
-fn strlen(
-    alloc: Global,
-    held: &Dataset,
-    key: &Argument<'_>,
-    given: Given,
-    effects: &mut Effects,
-) -> Result<Reply, AllocError>
-    ensures { IfOk result (λ r. Plans (on_key key.now strlen_answer) given.now held.now (view r) effects.old effects.new) }
-{
-    let live_entry = look(alloc, held, key, given, effects)?;
-    Ok(texts::strlen(live_entry))
-}
-
-/// What `GETRANGE` is answered. The DEL of an expired key is put behind the effects that are there.
-fn getrange(
-    alloc: Global,
-    held: &Dataset,
-    key: &Argument<'_>,
-    first: i64,
-    last: i64,
-    given: Given,
-    effects: &mut Effects,
-) -> Result<Reply, AllocError>
-    ensures { IfOk result (λ r. Plans (on_key key.now (getrange_answer first last)) given.now held.now (view r) effects.old effects.new) }
-{
-    let live_entry = look(alloc, held, key, given, effects)?;
-    texts::getrange(alloc, first, last, live_entry)
-}
-
-/// What `MGET` is answered. The DELs of expired keys are put behind the effects that are there.
-fn mget(
-    alloc: Global,
-    held: &Dataset,
-    keys: &Words<'_, '_>,
-    given: Given,
-    effects: &mut Effects,
-) -> Result<Reply, AllocError>
-    ensures { IfOk result (λ r. Plans (on_keys keys.now (texts keys.now)) given.now held.now (view r) effects.old effects.new) }
-{
-    push_dels(alloc, held, keys, given, true, effects)?;
-    texts::mget(alloc, held, keys, given)
-}
-
-/// What `SET` is answered, with these rules. Its effects are put behind those that are there.
-fn set(
-    alloc: Global,
-    held: &Dataset,
-    key: &Argument<'_>,
-    value: &Argument<'_>,
-    rules: SetRules,
-    given: Given,
-    effects: &mut Effects,
-) -> Result<Reply, AllocError>
-    ensures { IfOk result (λ r. Plans (on_key key.now (set_answer key.now value.now rules.condition rules.reply rules.deadline)) given.now held.now (view r) effects.old effects.new) }
-{
-    let live_entry = look(alloc, held, key, given, effects)?;
-    setting::set(alloc, key, value, rules, live_entry, effects)
-}
-
-/// What `SETEX` and `PSETEX` are answered. Their effects are put behind those that are there.
-fn set_for(
-    alloc: Global,
-    held: &Dataset,
-    key: &Argument<'_>,
-    expiry: Expiry,
-    value: &Argument<'_>,
-    given: Given,
-    effects: &mut Effects,
-) -> Result<Reply, AllocError>
-    ensures { IfOk result (λ r. Plans (on_key key.now (set_for_answer key.now value.now (said_at given.now (Until expiry)))) given.now held.now (view r) effects.old effects.new) }
-{
-    let rules = SetRules {
-        condition: None,
-        reply: SetReply::Done,
-        deadline: NewDeadline::said(Lifetime::Until(expiry), given),
-    };
-    set(alloc, held, key, value, rules, given, effects)
-}
-
-/// What `SETNX` is answered. Its effects are put behind those that are there.
-fn setnx(
-    alloc: Global,
-    held: &Dataset,
-    key: &Argument<'_>,
-    value: &Argument<'_>,
-    given: Given,
-    effects: &mut Effects,
-) -> Result<Reply, AllocError>
-    ensures { IfOk result (λ r. Plans (on_key key.now (setnx_answer key.now value.now)) given.now held.now (view r) effects.old effects.new) }
-{
-    let live_entry = look(alloc, held, key, given, effects)?;
-    setting::setnx(alloc, key, value, live_entry, effects)
-}
-
-/// What `GETSET` is answered. Its effects are put behind those that are there.
-fn getset(
-    alloc: Global,
-    held: &Dataset,
-    key: &Argument<'_>,
-    value: &Argument<'_>,
-    given: Given,
-    effects: &mut Effects,
-) -> Result<Reply, AllocError>
-    ensures { IfOk result (λ r. Plans (on_key key.now (getset_answer key.now value.now)) given.now held.now (view r) effects.old effects.new) }
-{
-    let live_entry = look(alloc, held, key, given, effects)?;
-    setting::getset(alloc, key, value, live_entry, effects)
-}
-
-/// What `GETDEL` is answered. Its effects are put behind those that are there.
-fn getdel(
-    alloc: Global,
-    held: &Dataset,
-    key: &Argument<'_>,
-    given: Given,
-    effects: &mut Effects,
-) -> Result<Reply, AllocError>
-    ensures { IfOk result (λ r. Plans (on_key key.now (getdel_answer key.now)) given.now held.now (view r) effects.old effects.new) }
-{
-    let live_entry = look(alloc, held, key, given, effects)?;
-    setting::getdel(alloc, key, live_entry, effects)
-}
-
-/// What `APPEND` is answered. Its effects are put behind those that are there.
-fn append(
-    alloc: Global,
-    held: &Dataset,
-    key: &Argument<'_>,
-    more: &Argument<'_>,
-    given: Given,
-    effects: &mut Effects,
-) -> Result<Reply, AllocError>
-    ensures { IfOk result (λ r. Plans (on_key key.now (append_answer key.now more.now)) given.now held.now (view r) effects.old effects.new) }
-{
-    let live_entry = look(alloc, held, key, given, effects)?;
-    changing::append(alloc, key, more, live_entry, effects)
-}
-
-/// What `SETRANGE` is answered. Its effects are put behind those that are there.
-fn setrange(
-    alloc: Global,
-    held: &Dataset,
-    key: &Argument<'_>,
-    offset: usize,
-    part: &Argument<'_>,
-    given: Given,
-    effects: &mut Effects,
-) -> Result<Reply, AllocError>
-    ensures { IfOk result (λ r. Plans (on_key key.now (setrange_answer key.now offset part.now)) given.now held.now (view r) effects.old effects.new) }
-{
-    let live_entry = look(alloc, held, key, given, effects)?;
-    changing::setrange(alloc, key, offset, part, live_entry, effects)
-}
-
-/// What `INCR`, `DECR`, `INCRBY` and `DECRBY` are answered. Their effects are put behind those that are there.
-fn increase(
-    alloc: Global,
-    held: &Dataset,
-    key: &Argument<'_>,
-    by: i64,
-    given: Given,
-    effects: &mut Effects,
-) -> Result<Reply, AllocError>
-    ensures number { IsTrue (is_i64 by) }
-    ensures reply { IfOk result (λ r. Plans (on_key key.now (increase_answer key.now by)) given.now held.now (view r) effects.old effects.new) }
-{
-    let live_entry = look(alloc, held, key, given, effects)?;
-    changing::increase(alloc, key, by, live_entry, effects)
+    match ask {
+        TextAsk::Set { lifetime, .. } => *lifetime,
+        TextAsk::SetEx { seconds, .. } => Lifetime::Until(Expiry::Seconds(*seconds)),
+        TextAsk::PSetEx { milliseconds, .. } => {
+            Lifetime::Until(Expiry::Milliseconds(*milliseconds))
+        }
+        _ => Lifetime::Endless,
+    }
 }

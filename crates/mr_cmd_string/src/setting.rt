@@ -3,18 +3,18 @@ ghost use Rattle.std.specs.Prelude.{◌≡◌, [], ◌∷◌, ◌++◌, IfOk, On
 ghost use Rattle.mr_resp.specs.Replies.{bytes};
 ghost use Rattle.mr_resp.specs.ReplyView.{view};
 ghost use Rattle.mr_effect.specs.declared.effect.Effect.TheVariants as effect;
-ghost use Rattle.mr_planning.specs.Answered.{Takes};
+ghost use Rattle.mr_room.specs.Answered.{Takes};
 ghost use Rattle.mr_cmd_string.specs.declared.text_ask.SetReply.TheVariants as asked;
-ghost use Rattle.mr_cmd_string.specs.Setting.{put, set_answer, setnx_answer, getset_answer, getdel_answer, allows, is_text, is_plain, holds_until, is_other, holds_other};
+ghost use Rattle.mr_cmd_string.specs.Setting.{said_at, put, set_answer, setnx_answer, getset_answer, getdel_answer, allows, is_text, is_plain, holds_until, is_other, holds_other};
 
 use crate::deadlines::{NewDeadline, is_same};
-use crate::text_ask::{SetCondition, SetReply};
+use crate::text_ask::{Lifetime, SetCondition, SetReply};
 use crate::texts::get;
-use mr_data::{Effect, Entry, Value};
-use mr_planning::{Effects, bulk, count, done, wrong_kind};
+use mr_arguments::Argument;
+use mr_bytes::Word;
+use mr_data::{Effect, Entry, Given, Value};
 use mr_resp::Reply;
-use mr_value::Word;
-use mr_words::Argument;
+use mr_room::{Effects, bulk, count, done, wrong_kind};
 use std::alloc::{AllocError, Global};
 
 /// What a `SET` is told besides its key and its text.
@@ -23,6 +23,24 @@ pub struct SetRules {
     pub condition: Option<SetCondition>,
     pub reply: SetReply,
     pub deadline: NewDeadline,
+}
+
+impl SetRules {
+    /// Where these are said at this moment.
+    pub fn said(
+        condition: Option<SetCondition>,
+        reply: SetReply,
+        lifetime: Lifetime,
+        given: Given,
+    ) -> SetRules
+        ensures { result ≡ record { condition = condition; reply = reply; deadline = said_at given.now lifetime } }
+    {
+        SetRules {
+            condition,
+            reply,
+            deadline: NewDeadline::said(lifetime, given),
+        }
+    }
 }
 
 /// `SET`

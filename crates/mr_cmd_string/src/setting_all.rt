@@ -2,18 +2,18 @@
 ghost use Rattle.std.specs.Prelude.{◌≡◌, ◌++◌, map, IfOk, OnOk};
 ghost use Rattle.std.specs.FinMap.{entries};
 ghost use Rattle.mr_resp.specs.ReplyView.{view};
-ghost use Rattle.mr_planning.specs.Keys.{dels, expired};
-ghost use Rattle.mr_planning.specs.Commands.{Plans, on_keys};
+ghost use Rattle.mr_room.specs.Keys.{dels, expired};
+ghost use Rattle.mr_room.specs.Commands.{Plans, on_keys};
 ghost use Rattle.mr_cmd_string.specs.SettingAll.{names, last_texts, set_effects, mset, msetnx};
 ghost use Rattle.mr_cmd_string.specs.Finding.{is_any_live, is_any_expired, changed_at};
 
 use crate::setting::is_plain;
-use mr_data::{Dataset, Effect, Given, Pairs as Texts};
+use mr_arguments::{Argument, Pairs, Words};
+use mr_bytes::Word;
+use mr_data::{Dataset, Effect, EffectPairs, Given};
 use mr_map::SliceMap;
-use mr_planning::{Effects, count, done, push_dels, see};
 use mr_resp::Reply;
-use mr_value::Word;
-use mr_words::{Argument, Pairs, Words};
+use mr_room::{Effects, count, done, push_dels, see};
 use std::alloc::{AllocError, Global};
 use std::borrow::CowSlice;
 
@@ -76,7 +76,7 @@ fn last_texts<'a>(
 // The texts that change what their keys hold, and whether one of the keys is expired.
 #[derive(Drop)]
 struct Changed {
-    texts: Texts<'static>,
+    texts: EffectPairs<'static>,
     expired: bool,
 }
 
@@ -92,7 +92,7 @@ fn find_changed(
     ensures expired { IfOk result (λ c. c.expired ≡ is_any_expired given.now (entries values.now) held.now) }
 {
     let mut changed = Changed {
-        texts: Texts::new(alloc),
+        texts: EffectPairs::new(alloc),
         expired: false,
     };
     for (key, text) in values.iter() {
@@ -124,10 +124,13 @@ fn find_any(held: &Dataset, pairs: &Pairs<'_, '_>, given: Given) -> (bool, bool)
 }
 
 /// All keys with their texts, copied.
-fn copied(alloc: Global, values: &SliceMap<'_, Argument<'_>>) -> Result<Texts<'static>, AllocError>
+fn copied(
+    alloc: Global,
+    values: &SliceMap<'_, Argument<'_>>,
+) -> Result<EffectPairs<'static>, AllocError>
     ensures { IfOk result (λ texts. texts ≡ entries values.now) }
 {
-    let mut texts = Texts::new(alloc);
+    let mut texts = EffectPairs::new(alloc);
     for (key, text) in values.iter() {
         texts.push(
             Word::copied(alloc, key)?,
@@ -157,7 +160,7 @@ fn push_expired(
 }
 
 /// Puts the effect of texts that keys get, unless there is none.
-fn push_texts(texts: Texts<'static>, effects: &mut Effects) -> Result<(), AllocError>
+fn push_texts(texts: EffectPairs<'static>, effects: &mut Effects) -> Result<(), AllocError>
     ensures { OnOk result (effects.new ≡ effects.old ++ set_effects texts.entry) }
 {
     if texts.is_empty() {

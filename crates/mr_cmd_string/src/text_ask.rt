@@ -2,8 +2,8 @@
 ghost use Rattle.std.specs.Prelude.{◌≡◌};
 ghost use Rattle.mr_cmd_string.specs.Parts.{amount_number};
 
+use mr_arguments::{Argument, Pairs, Words};
 use mr_expiry::{Expiry, Milliseconds, Seconds};
-use mr_words::{Argument, Pairs, Words};
 
 /// A command on strings, with its arguments.
 #[derive(Drop)]

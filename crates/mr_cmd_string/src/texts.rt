@@ -4,13 +4,14 @@ ghost use Rattle.std.specs.Cow.{cow_slice_items};
 ghost use Rattle.mr_resp.specs.Replies as replies;
 ghost use Rattle.mr_resp.specs.ReplyView.{view, trees_of};
 ghost use Rattle.mr_data.specs.Dataset.{live};
-ghost use Rattle.mr_cmd_string.specs.Texts.{get_reply, strlen_reply, getrange_reply, part, found, text_or_null, texts_at};
+ghost use Rattle.mr_room.specs.Commands.{Plans, on_keys};
+ghost use Rattle.mr_cmd_string.specs.Texts.{get_reply, strlen_reply, getrange_reply, part, found, text_or_null, texts, texts_at};
 
+use mr_arguments::Words;
+use mr_bytes::window;
 use mr_data::{Dataset, Entry, Given, Value};
-use mr_planning::{bulk, count, see, wrong_kind};
 use mr_resp::Reply;
-use mr_value::window;
-use mr_words::Words;
+use mr_room::{Effects, bulk, count, push_dels, see, wrong_kind};
 use std::alloc::{AllocError, Global};
 
 /// `GET`
@@ -67,8 +68,22 @@ fn part(alloc: Global, text: &[u8], first: i64, last: i64) -> Result<Reply, Allo
     }
 }
 
-/// `MGET`
+/// `MGET`. The DELs of expired keys are put behind the effects that are there.
 pub fn mget(
+    alloc: Global,
+    held: &Dataset,
+    keys: &Words<'_, '_>,
+    given: Given,
+    effects: &mut Effects,
+) -> Result<Reply, AllocError>
+    ensures { IfOk result (λ r. Plans (on_keys keys.now (texts keys.now)) given.now held.now (view r) effects.old effects.new) }
+{
+    push_dels(alloc, held, keys, given, true, effects)?;
+    texts_at(alloc, held, keys, given)
+}
+
+/// The text at each key, or nil where it isn't there or holds another kind.
+fn texts_at(
     alloc: Global,
     held: &Dataset,
     keys: &Words<'_, '_>,
@@ -84,7 +99,7 @@ pub fn mget(
     Ok(Reply::Array(replies))
 }
 
-/// What `MGET` answers for a key: its text, or nil where it isn't there or holds another kind.
+/// The text at a key, or nil where it isn't there or holds another kind.
 fn found(alloc: Global, live_entry: Option<&Entry>) -> Result<Reply, AllocError>
     ensures { IfOk result (λ r. view r ≡ found (option_copied live_entry.entry)) }
 {

@@ -4,16 +4,16 @@ use Rattle.std.specs.Prelude.{IsTrue, IfOk, IsPermutation, Ok, Err, if◌then◌
 use Rattle.std.specs.Option.{is_some, ok_or}
 use Rattle.std.proofs.lemmas.List.{take-append-drop}
 use Rattle.std.proofs.lemmas.List.Sorted.{IsPermutation-refl, IsPermutation-middle, IsPermutation-append_left}
-use Rattle.mr_value.proofs.Numbers.{same_bytes}
-use Rattle.mr_words.specs.Names.{lowered}
-use Rattle.mr_words.specs.Options.{added}
-use Rattle.mr_words.specs.Pairing.{unpaired}
-use Rattle.mr_words.specs.Spelling.{Part, Keyword, AreParts, in_a_row}
-use Rattle.mr_words.proofs.FitLemmas.{first, second}
-use Rattle.mr_words.proofs.OptionLemmas.{all_added, each_alone, from_none, parts_joined}
-use Rattle.mr_words.proofs.PartLemmas.{with_ok, if_with, if_ok, with_pairs, found_passes, ok_found}
-use Rattle.mr_words.specs.declared.name.Name.TheVariants as name
-use Rattle.mr_words.specs.declared.fault.AskFault.TheVariants.{Integer, Syntax}
+use Rattle.mr_bytes.proofs.Numbers.{same_bytes}
+use Rattle.mr_arguments.specs.Names.{lowered}
+use Rattle.mr_arguments.specs.Options.{added}
+use Rattle.mr_arguments.specs.Pairing.{unpaired}
+use Rattle.mr_arguments.specs.Spelling.{Part, Keyword, AreParts, in_a_row}
+use Rattle.mr_arguments.proofs.FitLemmas.{first, second}
+use Rattle.mr_arguments.proofs.OptionLemmas.{all_added, each_alone, from_none, parts_joined}
+use Rattle.mr_arguments.proofs.PartLemmas.{with_ok, if_with, if_ok, with_pairs, found_passes, ok_found}
+use Rattle.mr_arguments.specs.declared.name.Name.TheVariants as name
+use Rattle.mr_arguments.specs.declared.fault.AskFault.TheVariants.{Integer, Syntax}
 use Rattle.mr_score.specs.Texts.{IsScoreText, score_of}
 use Rattle.mr_score.proofs.TextLemmas.{read_spelled}
 use Rattle.mr_zset_options.specs.AddOptions.{add_also, add_option, add_options, add_text, add_word, agreeing, all_add_options, changed_also, disagree, is_add_option, no_add_options, option_count, option_words, pair_words}

@@ -3,14 +3,14 @@ use Rattle.std.proofs.Common.{ℕ, suc, ℤ, ◌≡◌, ◌≢◌, List, [], ◌
 use Rattle.std.specs.Prelude.{find, if◌then◌else◌, IsTrue, IsPermutation, Ok, Err}
 use Rattle.std.specs.List.{AllByRecursion}
 use Rattle.std.specs.Option.{is_some, ok_or}
-use Rattle.mr_words.specs.Options.{added}
-use Rattle.mr_words.specs.Pairing.{unpaired}
-use Rattle.mr_words.specs.Parts.{with}
-use Rattle.mr_words.specs.Spelling.{Part, Word, Keyword, Score, IsPart, AreParts, AreAroundOptions, in_a_row}
-use Rattle.mr_words.proofs.FitLemmas.{both}
-use Rattle.mr_words.proofs.OrderedLemmas.{any_order, parts_cut, reordered}
-use Rattle.mr_words.proofs.ReadLemmas.{first_part, one_part, pairs_itself, three_parts}
-use Rattle.mr_words.specs.declared.fault.AskFault.TheVariants.{Integer, Syntax}
+use Rattle.mr_arguments.specs.Options.{added}
+use Rattle.mr_arguments.specs.Pairing.{unpaired}
+use Rattle.mr_arguments.specs.Parts.{with}
+use Rattle.mr_arguments.specs.Spelling.{Part, Word, Keyword, Score, IsPart, AreParts, AreAroundOptions, in_a_row}
+use Rattle.mr_arguments.proofs.FitLemmas.{both}
+use Rattle.mr_arguments.proofs.OrderedLemmas.{any_order, parts_cut, reordered}
+use Rattle.mr_arguments.proofs.ReadLemmas.{first_part, one_part, pairs_itself, three_parts}
+use Rattle.mr_arguments.specs.declared.fault.AskFault.TheVariants.{Integer, Syntax}
 use Rattle.mr_score.specs.Texts.{score_of}
 use Rattle.mr_score.proofs.TextLemmas.{spelled_read}
 use Rattle.mr_zset_options.specs.AddOptions.{add_also, add_option, add_options, add_text, add_word, agreeing, all_add_options, disagree, is_add_option, no_add_options, option_count, option_words, pair_words}

@@ -11,7 +11,7 @@ use Rattle.mr_score.specs.Texts.{within_limit}
 use Rattle.mr_effect.specs.declared.effect.Effect.{Effect}
 use Rattle.mr_effect.specs.declared.effect.Effect.TheVariants as effect
 use Rattle.mr_entries.specs.Cuts.{cut}
-use Rattle.mr_planning.specs.Taken.{is_key}
+use Rattle.mr_room.specs.Taken.{is_key}
 use Rattle.mr_entries.proofs.Puts.{is_key_itself}
 use Rattle.mr_zset_options.specs.declared.choices.ScoreCondition.{ScoreCondition}
 use Rattle.mr_zset_options.specs.declared.choices.Comparison.{Comparison}

@@ -4,9 +4,9 @@ use Rattle.mr_resp.specs.Replies.{Tree}
 use Rattle.mr_effect.specs.declared.effect.Effect.{Effect}
 use Rattle.mr_entries.specs.Steps.{sorted_sets, held}
 use Rattle.mr_entries.specs.declared.value.Entry.{Entry}
-use Rattle.mr_planning.specs.Answered.{Answered, Takes, wrong_kind}
-use Rattle.mr_planning.specs.Collections.{Change, changed, changing, telling, replied as tells}
-use Rattle.mr_planning.proofs.PlanLemmas.{takes_reply}
+use Rattle.mr_room.specs.Answered.{Answered, Takes, wrong_kind}
+use Rattle.mr_room.specs.Collections.{Change, changed, changing, telling, replied as tells}
+use Rattle.mr_room.proofs.PlanLemmas.{takes_reply}
 use Rattle.mr_cmd_zset.specs.Scores.{Scores, Makes}
 
 -- at a key of another kind

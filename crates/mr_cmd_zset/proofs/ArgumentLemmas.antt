@@ -3,12 +3,12 @@ use Rattle.std.proofs.Common.{ℕ, ℤ, ◌≡◌, List, [], ◌∷◌, ◌++◌
 use Rattle.std.specs.Prelude.{IsTrue, IfOk}
 use Rattle.std.specs.List.{list_all}
 use Rattle.std.proofs.lemmas.List.Folds.{list_all-append}
-use Rattle.mr_value.specs.Words.{fits}
-use Rattle.mr_words.specs.Spelling.{Part, Word, Score, AreParts, in_a_row}
-use Rattle.mr_words.proofs.FitLemmas.{all_words, both, carried, carried-joined, carried-words, first, of_parts_fit, parts_fit, second}
-use Rattle.mr_words.proofs.PartLemmas.{with_count, with_integer}
-use Rattle.mr_words.specs.declared.name.Name.{Name}
-use Rattle.mr_words.specs.declared.name.Name.TheVariants as name
+use Rattle.mr_bytes.specs.Words.{fits}
+use Rattle.mr_arguments.specs.Spelling.{Part, Word, Score, AreParts, in_a_row}
+use Rattle.mr_arguments.proofs.FitLemmas.{all_words, both, carried, carried-joined, carried-words, first, of_parts_fit, parts_fit, second}
+use Rattle.mr_arguments.proofs.PartLemmas.{with_count, with_integer}
+use Rattle.mr_arguments.specs.declared.name.Name.{Name}
+use Rattle.mr_arguments.specs.declared.name.Name.TheVariants as name
 use Rattle.mr_cmd_zset.specs.Carried.{members_of, zset_words}
 use Rattle.mr_cmd_zset.specs.Arguments.{zcard, zcount, zincrby, zmscore, zpop, zrank, zrem, zremrangebyrank, zremrangebyscore, zscore}
 use Rattle.mr_cmd_zset.specs.Spelled.{pair_parts, pop_name, rank_name, ZSetSpells}

@@ -4,8 +4,8 @@ use Rattle.std.specs.Prelude.{IsTrue, if◌then◌else◌}
 use Rattle.std.specs.List.{list_all}
 use Rattle.std.specs.FinMap.{get, insert, len}
 use Rattle.mr_map.specs.Bytes.{Bytes}
-use Rattle.mr_value.specs.Words.{fits}
-use Rattle.mr_value.specs.Window.{window_of, windowed}
+use Rattle.mr_bytes.specs.Words.{fits}
+use Rattle.mr_bytes.specs.Window.{window_of, windowed}
 use Rattle.mr_score.specs.Score.{is_score}
 use Rattle.mr_zset.specs.Pairs.{pairs_of, range_of}
 use Rattle.mr_resp.specs.Replies.{Tree}
@@ -19,10 +19,10 @@ use Rattle.mr_cmd_zset.specs.declared.zset_ask.ZSetAsk.{ZSetAsk}
 use Rattle.mr_cmd_zset.specs.declared.zset_ask.ZSetAsk.TheVariants as ask
 use Rattle.mr_zset_options.specs.declared.choices.ScoreCondition.{ScoreCondition}
 use Rattle.mr_zset_options.specs.declared.choices.Comparison.{Comparison}
-use Rattle.mr_planning.specs.Collections.{telling}
-use Rattle.mr_planning.specs.Commands.{on_key, before}
-use Rattle.mr_planning.proofs.Laws.{faithful, at_key_faithful, IsLawful}
-use Rattle.mr_planning.proofs.Changing.{IsFaithfulChange, telling_faithful}
+use Rattle.mr_room.specs.Collections.{telling}
+use Rattle.mr_room.specs.Commands.{on_key, before}
+use Rattle.mr_room.proofs.Laws.{faithful, at_key_faithful, IsLawful}
+use Rattle.mr_room.proofs.Changing.{IsFaithfulChange, telling_faithful}
 use Rattle.mr_cmd_zset.specs.Scores.{Scores, score_reply, unchanged, set_to}
 use Rattle.mr_cmd_zset.specs.Adding.{is_set, with_pair, with_pairs, zadd, zincrby, set_score, out_of_range, score_or_0}
 use Rattle.mr_cmd_zset.specs.Removing.{members_of as names_of, taken, zrem, take_pairs, zremrangebyrank, zremrangebyscore}

@@ -2,16 +2,16 @@
 use Rattle.std.proofs.Common.{ℕ, ℤ, ◌≡◌, List, [], ◌∷◌, ◌++◌, Option, Some, None, refl}
 use Rattle.std.specs.Prelude.{Result, Ok, Err}
 use Rattle.std.specs.Option.{ok_or}
-use Rattle.mr_value.specs.Number.{number_of}
-use Rattle.mr_words.specs.FaultOrder.{counted, first_of, in_reading, answered_fault}
-use Rattle.mr_words.specs.Pairing.{pairs_of}
-use Rattle.mr_words.specs.Parts.{with}
-use Rattle.mr_words.proofs.FaultPlaces.{ComesNotBefore, no_other, OnlyFault}
-use Rattle.mr_words.specs.declared.name.Name.{Name}
-use Rattle.mr_words.specs.declared.name.Name.TheVariants as name
-use Rattle.mr_words.specs.declared.fault.AskFault.{AskFault}
-use Rattle.mr_words.specs.declared.fault.AskFault.TheVariants.{Integer, Syntax, Other}
-use Rattle.mr_words.specs.declared.fault.BadValue.TheVariants as bad
+use Rattle.mr_bytes.specs.Number.{number_of}
+use Rattle.mr_arguments.specs.FaultOrder.{counted, first_of, in_reading, answered_fault}
+use Rattle.mr_arguments.specs.Pairing.{pairs_of}
+use Rattle.mr_arguments.specs.Parts.{with}
+use Rattle.mr_arguments.proofs.FaultPlaces.{ComesNotBefore, no_other, OnlyFault}
+use Rattle.mr_arguments.specs.declared.name.Name.{Name}
+use Rattle.mr_arguments.specs.declared.name.Name.TheVariants as name
+use Rattle.mr_arguments.specs.declared.fault.AskFault.{AskFault}
+use Rattle.mr_arguments.specs.declared.fault.AskFault.TheVariants.{Integer, Syntax, Other}
+use Rattle.mr_arguments.specs.declared.fault.BadValue.TheVariants as bad
 use Rattle.mr_zset_options.specs.AddOptions.{add_options, option_words, pair_words}
 use Rattle.mr_cmd_zset.specs.ArgumentFaults.{add_faults, in_range_options, of_range, of_reversed, of_scores, range_faults, reversed_faults, score_range_faults, scores_and_limit}
 use Rattle.mr_zset_options.specs.Parts.{bound, limit_if_any}

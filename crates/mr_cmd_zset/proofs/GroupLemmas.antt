@@ -7,7 +7,7 @@ use Rattle.std.proofs.lemmas.List.{take_all}
 use Rattle.mr_effect.specs.declared.effect.Effect.{Effect}
 use Rattle.mr_entries.specs.Cuts.{most_items, cut}
 use Rattle.mr_entries.proofs.Cutting.{cut_more}
-use Rattle.mr_planning.specs.Groups.{TakesItems}
+use Rattle.mr_room.specs.Groups.{TakesItems}
 
 not_full : (n : ℕ) → n ≡ 0 → n ≡ most_items → ⊥
 not_full n a b = omega (arith, a, b)

@@ -3,7 +3,7 @@ use Rattle.std.proofs.Common.{◌≡◌, List, [], ◌∷◌, ◌++◌, map, ref
 use Rattle.std.specs.List.{flat_map}
 use Rattle.mr_effect.specs.declared.effect.Effect.{Effect}
 use Rattle.mr_entries.specs.Cuts.{cut}
-use Rattle.mr_planning.specs.Groups.{TakesItems}
+use Rattle.mr_room.specs.Groups.{TakesItems}
 
 module _ {X Y : Type 0} (effect : List Y → Effect) (items_of : X → List Y) where
   -- the effects with the group and what the rest has are those of what all have

@@ -1,11 +1,11 @@
 -- What the words of ranges spell.
 use Rattle.std.proofs.Common.{ℕ, ℤ, ◌≡◌, List, [], ◌∷◌, ◌++◌, Option, Some, None, inl, inr, refl, subst}
 use Rattle.std.specs.Prelude.{IfOk, IsPermutation}
-use Rattle.mr_words.specs.Spelling.{Part, Number, AreParts, in_a_row}
-use Rattle.mr_words.proofs.OptionLemmas.{parts_joined}
-use Rattle.mr_words.proofs.PartLemmas.{if_with, with_integer, number_part, is_number_part}
-use Rattle.mr_words.specs.declared.name.Name.{Name}
-use Rattle.mr_words.specs.declared.name.Name.TheVariants as name
+use Rattle.mr_arguments.specs.Spelling.{Part, Number, AreParts, in_a_row}
+use Rattle.mr_arguments.proofs.OptionLemmas.{parts_joined}
+use Rattle.mr_arguments.proofs.PartLemmas.{if_with, with_integer, number_part, is_number_part}
+use Rattle.mr_arguments.specs.declared.name.Name.{Name}
+use Rattle.mr_arguments.specs.declared.name.Name.TheVariants as name
 use Rattle.mr_zset_options.specs.RangeOptions.{no_range_options, range_options}
 use Rattle.mr_zset_options.specs.Parts.{limit_if_any}
 use Rattle.mr_cmd_zset.specs.Arguments.{range_by_score, range_with, ranks, reversed_with, scores_with, zrange, zrevrange}

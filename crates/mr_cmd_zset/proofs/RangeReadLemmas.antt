@@ -2,13 +2,13 @@
 use Rattle.std.proofs.Common.{ℕ, ℤ, ◌≡◌, List, [], ◌∷◌, ◌++◌, Option, Some, None, refl, sym, ◌∙◌, ap, subst}
 use Rattle.std.specs.Prelude.{IsPermutation, Ok}
 use Rattle.std.specs.Fmt.{signed_decimal}
-use Rattle.mr_value.proofs.Numbers.{number_is, number_of-signed_decimal}
-use Rattle.mr_words.specs.Askable.{IsI64}
-use Rattle.mr_words.specs.Parts.{with}
-use Rattle.mr_words.specs.Spelling.{Part, Word, Number, Keyword, ScoreBound, AreParts, AreWithOptions, in_a_row}
-use Rattle.mr_words.proofs.PartLemmas.{number_part}
-use Rattle.mr_words.proofs.ReadLemmas.{number_part_of, number_part_only, three_first}
-use Rattle.mr_words.specs.declared.name.Name.{Name}
+use Rattle.mr_bytes.proofs.Numbers.{number_is, number_of-signed_decimal}
+use Rattle.mr_arguments.specs.Askable.{IsI64}
+use Rattle.mr_arguments.specs.Parts.{with}
+use Rattle.mr_arguments.specs.Spelling.{Part, Word, Number, Keyword, ScoreBound, AreParts, AreWithOptions, in_a_row}
+use Rattle.mr_arguments.proofs.PartLemmas.{number_part}
+use Rattle.mr_arguments.proofs.ReadLemmas.{number_part_of, number_part_only, three_first}
+use Rattle.mr_arguments.specs.declared.name.Name.{Name}
 use Rattle.mr_zset.specs.declared.bound.Bound.{Bound}
 use Rattle.mr_cmd_zset.specs.Askable.{LimitIsAskable}
 use Rattle.mr_zset_options.specs.Parts.{bounds, limit_if_any}

@@ -1,6 +1,7 @@
 -- Members that go.
-use Rattle.std.proofs.Common.{ℕ, zero, suc, ℤ, ◌≡◌, ◌+◌, ◌-◌, ◌<◌, ◌≤◌, List, [], ◌∷◌, ◌++◌, map, length, take, drop, reverse, get_or, Bool, true, false, ◌&&◌, not, cond, Option, Some, None, refl, sym, ◌∙◌, ap, subst, arith}
+use Rattle.std.proofs.Common.{ℕ, zero, suc, ℤ, ◌≡◌, ◌+◌, ◌-◌, ◌<◌, ◌≤◌, List, [], ◌∷◌, ◌++◌, map, length, take, drop, reverse, get_or, Bool, true, false, ◌&&◌, not, cond, FitsSigned, w64, to_z, of_z, Option, Some, None, refl, sym, ◌∙◌, ap, subst, arith}
 use Rattle.std.proofs.lemmas.Grind.{reverse_onto}
+use Rattle.std.proofs.lemmas.Int.{to_z-of_z}
 use Rattle.std.specs.Prelude.{◌||◌, ◌≢◌, is_some, filter, if◌then◌else◌, MatchOption, option_map, slice_get}
 use Rattle.std.specs.List.{AllByRecursion}
 use Rattle.std.specs.Ordering.{is_lt}
@@ -10,7 +11,7 @@ use Rattle.std.proofs.lemmas.List.{length-map, nil_from_length}
 use Rattle.std.proofs.lemmas.Cmp.{nat_list_cmp_total}
 use Rattle.mr_map.specs.Bytes.{Bytes, ByteMap, bytes_cmp}
 use Rattle.mr_map.proofs.Domains.{same_keys}
-use Rattle.mr_value.specs.Window.{windowed}
+use Rattle.mr_bytes.specs.Window.{window_of, windowed}
 use Rattle.mr_resp.specs.Replies.{Tree}
 use Rattle.mr_effect.specs.declared.effect.Effect.{Effect}
 use Rattle.mr_effect.specs.declared.effect.Effect.TheVariants as effect
@@ -25,9 +26,9 @@ use Rattle.mr_zset_options.specs.declared.choices.Order.{Order}
 use Rattle.mr_zset_options.specs.declared.choices.Order.TheVariants as order
 use Rattle.mr_zset_options.specs.declared.choices.RangeReply.TheVariants.{WithScores}
 use Rattle.mr_entries.specs.Collections.{with_members, without_scores}
-use Rattle.mr_planning.specs.Taken.{is_key, has}
+use Rattle.mr_room.specs.Taken.{is_key, has}
 use Rattle.mr_entries.proofs.Maps.{same_key}
-use Rattle.mr_planning.proofs.KeyLists.{more_words}
+use Rattle.mr_room.proofs.KeyLists.{more_words}
 use Rattle.mr_cmd_zset.specs.Scores.{Scores, number, lost, pairs_in, reduced_to, Makes}
 use Rattle.mr_cmd_zset.specs.Removing.{members_of, as_set, remove_all}
 use Rattle.mr_cmd_zset.specs.Ranges.{pairs_reply}
@@ -58,7 +59,7 @@ contains_with (x ∷ xs) s q = contains_with xs (insert s x tt) q ∙ ap (λ b. 
 contains_none : (q : Bytes) → contains_key {X = Unit {0}} (empty {R = bytes_cmp}) q ≡ false
 contains_none q = ap is_some (get-empty bytes_cmp q)
 
-contains_as_set : (xs : List Bytes) (q : Bytes) → contains_key (as_set xs) q ≡ has xs q
+pub contains_as_set : (xs : List Bytes) (q : Bytes) → contains_key (as_set xs) q ≡ has xs q
 contains_as_set xs q = contains_with xs empty q ∙ ap (λ b. has xs q || b) (contains_none q) ∙ or_false (has xs q)
 
 pub len_keys : (s : ByteMap (Unit {0})) → len s ≡ length (keys s)
@@ -95,6 +96,13 @@ none_at [] zero e = refl
 none_at [] (suc i) e = refl
 none_at (y ∷ ys) zero e = cc
 none_at (y ∷ ys) (suc i) e = none_at ys i e
+
+-- the window that is found is the one of the clause
+pub found : (a b : ℤ) (n m : ℕ) (w : Option (ℕ × ℕ)) → FitsSigned w64 a → FitsSigned w64 b → n ≡ m → w ≡ window_of (to_z w64 (of_z w64 a)) (to_z w64 (of_z w64 b)) n → w ≡ window_of a b m
+found a b n m w a_fits b_fits same places =
+    places
+    ∙ ap (λ (x : ℤ). window_of x (to_z w64 (of_z w64 b)) n) (to_z-of_z w64 a a_fits) ∙ ap (λ (x : ℤ). window_of a x n) (to_z-of_z w64 b b_fits)
+    ∙ ap (λ (n : ℕ). window_of a b n) same
 
 -- the pair is all of a window, or the window hasn't exactly one
 abbrev pub IsOnlyPair : List (Bytes × ℤ) → Option (ℕ × ℕ) → Option Pair → Type 0
@@ -155,7 +163,7 @@ IsThere there xs s = (q : Bytes) → contains_key there q ≡ (has xs q && is_so
 pub none_there : (there : ByteMap (Unit {0})) (s : Scores) → there ≡ empty → IsThere there [] s
 none_there there s h q = ap (λ (m : ByteMap (Unit {0})). contains_key m q) h ∙ contains_none q
 
-has_one : (xs : List Bytes) (x q : Bytes) → has (xs ++ x ∷ []) q ≡ (has xs q || is_key q x)
+pub has_one : (xs : List Bytes) (x q : Bytes) → has (xs ++ x ∷ []) q ≡ (has xs q || is_key q x)
 has_one xs x q = has_append xs (x ∷ []) q ∙ ap (λ b. has xs q || b) (or_false (is_key q x))
 
 module _ {A : Type 0} (f : A → Bytes) (xs : List A) (i : ℕ) (x : A) (here : i < length xs) (is : x ≡ get_or xs i x) (w : Bytes) (word : w ≡ f x) (s : Scores) (there : ByteMap (Unit {0})) (before : IsThere there (map f (take i xs)) s) where

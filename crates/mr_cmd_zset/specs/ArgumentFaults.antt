@@ -1,13 +1,13 @@
 -- The faults that the arguments of ZADD and of commands on ranges have, each taken by itself.
 use Rattle.std.specs.Prelude.{ℕ, List, [], ◌∷◌, ◌++◌, Option, Some, None, Result, Ok, Err}
-use Rattle.mr_words.specs.FaultOrder.{in_reading}
-use Rattle.mr_words.specs.Parts.{integer}
+use Rattle.mr_arguments.specs.FaultOrder.{in_reading}
+use Rattle.mr_arguments.specs.Parts.{integer}
 use Rattle.mr_zset_options.specs.AddOptions.{add_options, option_words, pair_words}
 use Rattle.mr_zset_options.specs.Parts.{bound, limit_if_any}
 use Rattle.mr_zset_options.specs.RangeOptions.{no_range_options, range_options}
 use Rattle.mr_cmd_zset.specs.Arguments.{score_pairs}
-use Rattle.mr_words.specs.declared.fault.AskFault.{AskFault}
-use Rattle.mr_words.specs.declared.fault.AskFault.TheVariants.{Syntax}
+use Rattle.mr_arguments.specs.declared.fault.AskFault.{AskFault}
+use Rattle.mr_arguments.specs.declared.fault.AskFault.TheVariants.{Syntax}
 use Rattle.mr_zset_options.specs.declared.range_options.LimitWords.{LimitWords}
 use Rattle.mr_zset_options.specs.declared.range_options.RangeBy.{RangeBy}
 use Rattle.mr_zset_options.specs.declared.range_options.RangeBy.TheVariants.{Rank, Score}

@@ -1,12 +1,12 @@
 -- Commands on sorted sets.
 use Rattle.std.specs.Prelude.{ℕ, ℤ, List, [], ◌∷◌, Option, Some, None, Result, Ok, Err}
 use Rattle.std.specs.Option.{ok_or}
-use Rattle.mr_words.specs.Pairing.{pairs_of}
-use Rattle.mr_words.specs.Parts.{with, integer, count}
-use Rattle.mr_words.specs.declared.name.Name.{Name}
-use Rattle.mr_words.specs.declared.name.Name.TheVariants as name
-use Rattle.mr_words.specs.declared.fault.AskFault.{AskFault}
-use Rattle.mr_words.specs.declared.fault.AskFault.TheVariants.{Arity, Syntax, Integer}
+use Rattle.mr_arguments.specs.Pairing.{pairs_of}
+use Rattle.mr_arguments.specs.Parts.{with, integer, count}
+use Rattle.mr_arguments.specs.declared.name.Name.{Name}
+use Rattle.mr_arguments.specs.declared.name.Name.TheVariants as name
+use Rattle.mr_arguments.specs.declared.fault.AskFault.{AskFault}
+use Rattle.mr_arguments.specs.declared.fault.AskFault.TheVariants.{Arity, Syntax, Integer}
 use Rattle.mr_zset_options.specs.AddOptions.{add_options, option_words, pair_words}
 use Rattle.mr_zset_options.specs.Parts.{bounds, limit_if_any, score}
 use Rattle.mr_zset_options.specs.RangeOptions.{no_range_options, range_options}

@@ -1,6 +1,6 @@
 -- Which commands on sorted sets words can ask for.
 use Rattle.std.specs.Prelude.{◌≡◌, ◌≢◌, [], false, Option, Some, None}
-use Rattle.mr_words.specs.Askable.{IsI64, IsCount}
+use Rattle.mr_arguments.specs.Askable.{IsI64, IsCount}
 use Rattle.mr_zset_options.specs.AddOptions.{disagree}
 use Rattle.mr_zset_options.specs.declared.choices.Limit.{Limit}
 use Rattle.mr_cmd_zset.specs.declared.zset_ask.ZSetAsk.{ZSetAsk}

@@ -7,9 +7,9 @@ use Rattle.mr_entries.specs.declared.value.Entry.{Entry}
 use Rattle.mr_zset_options.specs.Scored.{is_scored}
 use Rattle.mr_cmd_zset.specs.declared.zset_ask.ZSetAsk.{ZSetAsk}
 use Rattle.mr_cmd_zset.specs.declared.zset_ask.ZSetAsk.TheVariants as ask
-use Rattle.mr_planning.specs.Answered.{Answered}
-use Rattle.mr_planning.specs.Collections.{changing}
-use Rattle.mr_planning.specs.Commands.{Command, on_key}
+use Rattle.mr_room.specs.Answered.{Answered}
+use Rattle.mr_room.specs.Collections.{changing}
+use Rattle.mr_room.specs.Commands.{Command, on_key}
 use Rattle.mr_cmd_zset.specs.Adding.{zadd, zincrby}
 use Rattle.mr_cmd_zset.specs.Removing.{zrem, take_pairs, zremrangebyrank, zremrangebyscore}
 use Rattle.mr_cmd_zset.specs.Telling.{zcard_answer, zcount_answer, zscore_answer, zmscore_answer, rank_answer}

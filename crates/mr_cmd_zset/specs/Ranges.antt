@@ -6,13 +6,13 @@ use Rattle.mr_map.specs.Bytes.{Bytes}
 use Rattle.mr_resp.specs.Replies as reply
 use Rattle.mr_resp.specs.Replies.{Tree}
 use Rattle.mr_resp.specs.ReplyView.{trees_of}
-use Rattle.mr_value.specs.Window.{window_of, windowed}
+use Rattle.mr_bytes.specs.Window.{window_of, windowed}
 use Rattle.mr_zset.specs.declared.bound.Bound.{Bound}
 use Rattle.mr_zset.specs.Pairs.{range_of}
 use Rattle.mr_entries.specs.Steps.{sorted_sets}
 use Rattle.mr_entries.specs.declared.value.Entry.{Entry}
-use Rattle.mr_planning.specs.Answered.{Answered}
-use Rattle.mr_planning.specs.Collections.{telling}
+use Rattle.mr_room.specs.Answered.{Answered}
+use Rattle.mr_room.specs.Collections.{telling}
 use Rattle.mr_zset_options.specs.declared.choices.Order.{Order}
 use Rattle.mr_zset_options.specs.declared.choices.Order.TheVariants.{Ascending, Descending}
 use Rattle.mr_zset_options.specs.declared.choices.RangeReply.{RangeReply}

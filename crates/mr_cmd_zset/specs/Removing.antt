@@ -2,13 +2,13 @@
 use Rattle.std.specs.Prelude.{ℕ, ℤ, List, map, take, length, Option, Some, None}
 use Rattle.std.specs.FinMap.{empty, len}
 use Rattle.mr_map.specs.Bytes.{Bytes, ByteMap}
-use Rattle.mr_value.specs.Window.{window_of, windowed}
+use Rattle.mr_bytes.specs.Window.{window_of, windowed}
 use Rattle.mr_zset.specs.Pairs.{pairs_of, range_of}
 use Rattle.mr_zset.specs.declared.bound.Bound.{Bound}
 use Rattle.mr_entries.specs.Collections.{with_members, without_scores}
 use Rattle.mr_zset_options.specs.declared.choices.Order.{Order}
 use Rattle.mr_zset_options.specs.declared.choices.RangeReply.TheVariants.{WithScores}
-use Rattle.mr_planning.specs.Collections.{Change}
+use Rattle.mr_room.specs.Collections.{Change}
 use Rattle.mr_cmd_zset.specs.Scores.{Scores, number, pairs_in, lost, reduced_to}
 use Rattle.mr_cmd_zset.specs.Ranges.{pairs_reply}
 

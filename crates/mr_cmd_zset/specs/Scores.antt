@@ -13,7 +13,7 @@ use Rattle.mr_entries.specs.Collections.{with_scores}
 use Rattle.mr_zset_options.specs.declared.choices.Order.{Order}
 use Rattle.mr_zset_options.specs.declared.choices.Order.TheVariants as order
 use Rattle.mr_entries.specs.Cuts.{cut}
-use Rattle.mr_planning.specs.Collections.{Change}
+use Rattle.mr_room.specs.Collections.{Change}
 
 abbrev pub Scores : Type 0
 Scores = ByteMap ℤ

@@ -1,8 +1,8 @@
 -- The words that a command on sorted sets is spelled by.
 use Rattle.std.specs.Prelude.{◌≡◌, ◌⊎◌, ℕ, ℤ, List, [], ◌∷◌, ◌++◌, map}
-use Rattle.mr_words.specs.Spelling.{Part, Word, Number, Score, count_part, AreParts, AreWithOptions, AreAroundOptions}
-use Rattle.mr_words.specs.declared.name.Name.{Name}
-use Rattle.mr_words.specs.declared.name.Name.TheVariants as name
+use Rattle.mr_arguments.specs.Spelling.{Part, Word, Number, Score, count_part, AreParts, AreWithOptions, AreAroundOptions}
+use Rattle.mr_arguments.specs.declared.name.Name.{Name}
+use Rattle.mr_arguments.specs.declared.name.Name.TheVariants as name
 use Rattle.mr_zset_options.specs.declared.range_options.RangeOption.TheVariants as range
 use Rattle.mr_zset_options.specs.declared.choices.Order.{Order}
 use Rattle.mr_zset_options.specs.declared.choices.Order.TheVariants.{Ascending, Descending}

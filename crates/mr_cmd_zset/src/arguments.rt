@@ -4,7 +4,7 @@ ghost use Rattle.std.specs.Cow.{cow_slice_items};
 ghost use Rattle.mr_cmd_zset.specs.Arguments.{add_scores, range_by_score, score_pairs, zadd, zcard, zcount, zincrby, zmscore, zpop, zrange, zrank, zrem, zremrangebyrank, zremrangebyscore, zrevrange, zscore, ranks, scores};
 
 use crate::zset_ask::ZSetAsk;
-use mr_words::{Argument, Arguments, AskFault, Name, Pairs, Words, count, integer};
+use mr_arguments::{Argument, Arguments, AskFault, Name, Pairs, Words, count, integer};
 use mr_zset_options::{
     AddOptions, LimitWords, Order, RangeBy, RangeOptions, RangeReply, ScoredMembers, bounds,
     cut_options, limit_if_any, score,

@@ -6,9 +6,9 @@ ghost use Rattle.mr_entries.specs.Cuts.{cut};
 ghost use Rattle.mr_cmd_zset.specs.Scores.{changed, changed_alone};
 
 use crate::groups::{MemberGroup, ScoreGroup, end_members, end_scores};
+use mr_arguments::Argument;
 use mr_map::SliceMap;
-use mr_planning::Effects;
-use mr_words::Argument;
+use mr_room::Effects;
 use mr_zset::ZSet;
 use std::alloc::{AllocError, Global};
 
@@ -58,6 +58,23 @@ pub fn push_lost(
 {
     let mut group = MemberGroup::new(alloc, key.as_slice());
     for (member, _) in members.iter() {
+        group.push(member, effects)?;
+    }
+    end_members(group, effects)?;
+    Ok(())
+}
+
+/// Effects that take all members of a set out, in byte order.
+pub fn push_all(
+    alloc: Global,
+    key: &Argument<'_>,
+    set: &ZSet,
+    effects: &mut Effects,
+) -> Result<(), AllocError>
+    ensures { OnOk result (effects.new ≡ effects.old ++ map (made.RemoveScores key.now) (cut (keys set.now))) }
+{
+    let mut group = MemberGroup::new(alloc, key.as_slice());
+    for (member, _) in set.iter() {
         group.push(member, effects)?;
     }
     end_members(group, effects)?;

@@ -1,21 +1,21 @@
 // The plan of a command.
 ghost use Rattle.std.specs.Prelude.{◌≡◌, IsTrue, IfOk, option_copied};
 ghost use Rattle.std.specs.List.{list_all};
-ghost use Rattle.mr_value.specs.Words.{fits};
+ghost use Rattle.mr_bytes.specs.Words.{fits};
 ghost use Rattle.mr_resp.specs.ReplyView.{view};
 ghost use Rattle.mr_data.specs.Dataset.{IsDataset};
 ghost use Rattle.mr_cmd_zset.specs.Carried.{zset_words};
-ghost use Rattle.mr_planning.specs.Answered.{Takes};
-ghost use Rattle.mr_planning.specs.Commands.{IsPlan, IsFaithful, HasCommandTexts};
+ghost use Rattle.mr_room.specs.Answered.{Takes};
+ghost use Rattle.mr_room.specs.Commands.{IsPlan, IsFaithful, HasCommandTexts};
 ghost use Rattle.mr_cmd_zset.specs.Commands.{key_of, answer_of, command, HasScores};
 
 use crate::rules::Rules;
 use crate::zset_ask::ZSetAsk;
 use crate::{adding, ranges, removing, telling};
+use mr_arguments::Argument;
 use mr_data::{Dataset, Entry, Given, Plan};
-use mr_planning::{Effects, look};
 use mr_resp::Reply;
-use mr_words::Argument;
+use mr_room::{Effects, look};
 use std::alloc::{AllocError, Global};
 
 /// What a command on sorted sets is answered, and its effects. The dataset isn't changed, and the plan owns what it holds.

@@ -7,10 +7,10 @@ ghost use Rattle.mr_zset.specs.Pairs.{shown};
 ghost use Rattle.mr_cmd_zset.specs.Ranges.{by_rank_answer, by_score_answer, limited, ordered, pair_replies, pairs_reply};
 
 use crate::replies::{score_bulk, set_at};
+use mr_bytes::window;
 use mr_data::Entry;
-use mr_planning::{bulk, wrong_kind};
 use mr_resp::Reply;
-use mr_value::window;
+use mr_room::{bulk, wrong_kind};
 use mr_zset::{Bound, Pair, ZSet};
 use mr_zset_options::{Limit, Order, RangeReply};
 use std::alloc::{AllocError, Global};

@@ -1,28 +1,28 @@
 // Commands that take members out.
-ghost use Rattle.std.specs.Prelude.{◌≡◌, ◌≢◌, ◌∷◌, ◌++◌, ◌<◌, ◌^◌, [], length, map, take, IfOk, MatchOption, OnOk, Some, option_copied};
+ghost use Rattle.std.specs.Prelude.{◌≡◌, ◌≢◌, ◌∷◌, ◌++◌, ◌<◌, ◌^◌, ◌≤◌, [], length, map, slice_range, take, IfOk, MatchOption, OnOk, Some, option_copied};
 ghost use Rattle.std.specs.FinMap as finite;
 ghost use Rattle.std.specs.FinMap.{keys};
 ghost use Rattle.mr_resp.specs.ReplyView.{view};
-ghost use Rattle.mr_value.specs.Window.{window_of, windowed};
+ghost use Rattle.mr_bytes.specs.Window.{window_of, windowed};
 ghost use Rattle.mr_zset.specs.Pairs.{pairs_of, shown};
 ghost use Rattle.mr_entries.specs.Collections.{without_scores};
 ghost use Rattle.mr_entries.specs.Steps.{sorted_sets};
 ghost use Rattle.mr_effect.specs.declared.effect.Effect.TheVariants as made;
 ghost use Rattle.mr_entries.specs.Cuts.{cut};
-ghost use Rattle.mr_planning.specs.Answered.{Takes};
-ghost use Rattle.mr_planning.specs.Collections.{changing};
+ghost use Rattle.mr_room.specs.Answered.{Takes};
+ghost use Rattle.mr_room.specs.Collections.{changing};
 ghost use Rattle.mr_cmd_zset.specs.Scores.{number, pairs_in, lost, Makes};
 ghost use Rattle.mr_cmd_zset.specs.Removing.{members_of, zrem, zremrangebyrank, zremrangebyscore, as_set, take_pairs};
 
-use crate::grouping::{push_lost, push_lost_alone};
+use crate::grouping::{push_all, push_lost, push_lost_alone};
 use crate::ranges::forward;
 use crate::replies::set_at;
+use mr_arguments::{Argument, Words};
+use mr_bytes::window;
 use mr_data::Entry;
 use mr_map::SliceMap;
-use mr_planning::{Effects, count, wrong_kind};
 use mr_resp::Reply;
-use mr_value::window;
-use mr_words::{Argument, Words};
+use mr_room::{Effects, count, wrong_kind};
 use mr_zset::{Bound, Pair, ZSet};
 use mr_zset_options::{Order, RangeReply};
 use std::alloc::{AllocError, Global};
@@ -115,8 +115,8 @@ fn remove_between(
         push_lost_alone(alloc, key, pair.member, effects)?;
         return Ok(count(1));
     }
-    let pairs = pairs_at(alloc, set, first, last)?;
-    remove_pairs(alloc, key, &pairs, effects)
+    let (first, past) = places_at(set, first, last);
+    remove_places(alloc, key, first, past, set, effects)
 }
 
 /// The pair between two indexes, both included, if it is the only one.
@@ -129,13 +129,15 @@ fn only_pair(set: &ZSet, first: i64, last: i64) -> Option<Pair<'_>>
     }
 }
 
-/// The pairs between two indexes, both included.
-fn pairs_at(alloc: Global, set: &ZSet, first: i64, last: i64) -> Result<Vec<Pair<'_>>, AllocError>
-    ensures { IfOk result (λ pairs. map shown pairs.items ≡ windowed (window_of first last (finite.len set.now)) (pairs_of set.now)) }
+/// The places of the pairs between two indexes, both included: that of the first, and the one behind the last.
+fn places_at(set: &ZSet, first: i64, last: i64) -> (usize, usize)
+    ensures ordered { result.0 ≤ result.1 }
+    ensures within { result.1 ≤ finite.len set.now }
+    ensures range { windowed (window_of first last (finite.len set.now)) (pairs_of set.now) ≡ slice_range (pairs_of set.now) result.0 result.1 }
 {
     match window(first, last, set.len()) {
-        Some((first, last)) => set.by_rank(first, last),
-        None => Ok(Vec::new(alloc)),
+        Some((first, last)) => (first, last + 1),
+        None => (0, 0),
     }
 }
 
@@ -154,9 +156,32 @@ pub fn zremrangebyscore(
     let Some(set) = set_at(live_entry, &empty) else {
         return Ok(wrong_kind());
     };
-    let pairs = set.by_score(min, max)?;
-    let reply = remove_pairs(alloc, key, &pairs, effects)?;
+    let (first, past) = set.places(min, max);
+    let reply = remove_places(alloc, key, first, past, set, effects)?;
     Ok(reply)
+}
+
+/// Puts the effects that take the pairs from one place to another out, the second left out, and answers how many these
+/// are. Where they are all pairs of the set, no memory is taken but that of the effects.
+fn remove_places(
+    alloc: Global,
+    key: &Argument<'_>,
+    first: usize,
+    past: usize,
+    set: &ZSet,
+    effects: &mut Effects,
+) -> Result<Reply, AllocError>
+    requires ordered { first ≤ past }
+    requires within { past ≤ finite.len set.now }
+    ensures reply { IfOk result (λ r. view r ≡ number (finite.len (as_set (members_of (slice_range (pairs_of set.now) first past))))) }
+    ensures effects { OnOk result (effects.new ≡ effects.old ++ map (made.RemoveScores key.now) (cut (keys (as_set (members_of (slice_range (pairs_of set.now) first past)))))) }
+{
+    if past - first == set.len() {
+        push_all(alloc, key, set, effects)?;
+        return Ok(count(set.len()));
+    }
+    let pairs = set.between(first, past)?;
+    remove_pairs(alloc, key, &pairs, effects)
 }
 
 /// Puts the effects that take the members of pairs out, and answers how many these are.
@@ -236,7 +261,11 @@ fn take_from(
     ensures { IfOk result (λ r. Makes (take_pairs key.now order (Some count) set.now) (view r) effects.old effects.new) }
 {
     let pairs = first_pairs(alloc, order, count, set)?;
-    push_members(alloc, key, &pairs, effects)?;
+    if pairs.len() == set.len() {
+        push_all(alloc, key, set, effects)?;
+    } else {
+        push_members(alloc, key, &pairs, effects)?;
+    }
     let reply = forward(alloc, &pairs, RangeReply::WithScores)?;
     Ok(reply)
 }

@@ -8,8 +8,8 @@ ghost use Rattle.mr_cmd_zset.specs.Adding.{out_of_range};
 
 use itoa::Buffer;
 use mr_data::{Entry, Value};
-use mr_planning::bulk;
 use mr_resp::Reply;
+use mr_room::bulk;
 use mr_zset::ZSet;
 use std::alloc::{AllocError, Global};
 use std::borrow::CowSlice;

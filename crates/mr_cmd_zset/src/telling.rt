@@ -4,10 +4,10 @@ ghost use Rattle.mr_resp.specs.ReplyView.{view};
 ghost use Rattle.mr_cmd_zset.specs.Telling.{zcard_answer, zcount_answer, counted_from, found_scores, rank_answer, score_or_nil, zscore_answer, zmscore_answer};
 
 use crate::replies::{score_bulk, set_at};
+use mr_arguments::{Argument, Words};
 use mr_data::Entry;
-use mr_planning::{count, wrong_kind};
 use mr_resp::Reply;
-use mr_words::{Argument, Words};
+use mr_room::{count, wrong_kind};
 use mr_zset::{Bound, ZSet};
 use mr_zset_options::Order;
 use std::alloc::{AllocError, Global};

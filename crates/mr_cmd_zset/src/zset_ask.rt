@@ -1,5 +1,5 @@
 // Commands on sorted sets, with their arguments.
-use mr_words::{Argument, Words};
+use mr_arguments::{Argument, Words};
 use mr_zset::Bound;
 use mr_zset_options::{
     Comparison, Limit, Order, RangeReply, ScoreCondition, ScoredMembers, ScoresReply,

@@ -1,5 +1,6 @@
 ghost use Rattle.std.specs.Prelude.{◌≡◌, ◌≤◌, ◌<◌, ◌↔◌, [], None, Some, length, IsTrue, OnErr, OnOk};
 ghost use Rattle.mr_connections.specs.State.{begun, left, most_kept, pushed, wrote};
+ghost use Rattle.mr_unsent.specs.Limits.{most_unsent};
 
 use mr_links::LinkId;
 use mr_unsent::Unsent;
@@ -19,7 +20,7 @@ const LEAST_PIECE: usize = 64;
 const MUCH_KEPT: usize = 1_048_576;
 
 /// Where more bytes wait, nothing more is read. Three requests fit into the least piece, and three values of 16 MiB behind
-/// these bytes are no more than may be left unread.
+/// these bytes are no more than may be left unread. Of larger values one alone may be more.
 const MOST_KEPT: usize = 15_728_640;
 
 /// A connection: the node's link, and what waits to be sent.
@@ -83,7 +84,7 @@ impl Connection {
 
     /// Whether more waits than it may leave unread.
     pub fn is_too_much(&self) -> bool
-        ensures { IsTrue result ↔ (67_108_864 < length self.now.waiting) }
+        ensures { IsTrue result ↔ (most_unsent < length self.now.waiting) }
     {
         self.unsent.is_too_much()
     }

@@ -4,7 +4,7 @@ use Rattle.std.proofs.lemmas.List.{length-map}
 use Rattle.std.specs.Cow.{cow_slice_items}
 use Rattle.mr_inline.specs.Line.{IsLine, IsBlank, IsLineOf}
 use Rattle.mr_inline.proofs.LinesByRuns.{one_list}
-use Rattle.mr_console.specs.Lines.{line_limit}
+use Rattle.mr_inline.specs.Limits.{line_limit}
 use Rattle.mr_console.specs.Asking.{AsksNobody, IsAsked, IsBehind}
 use Rattle.mr_console.specs.declared.asking.Asked.{Asked}
 use Rattle.mr_console.specs.declared.asking.Asked.TheVariants.{Nothing, Request, Bad}

@@ -2,7 +2,7 @@
 use Rattle.std.specs.Prelude.{◌≡◌, ◌<◌, ℕ, List, [], ◌∷◌, length, map}
 use Rattle.std.specs.Cow.{cow_slice_items}
 use Rattle.mr_inline.specs.Line.{IsLine, IsBlank}
-use Rattle.mr_console.specs.Lines.{line_limit}
+use Rattle.mr_inline.specs.Limits.{line_limit}
 use Rattle.mr_console.specs.Places.{digit_of}
 use Rattle.mr_console.specs.declared.asking.Asked.{Asked}
 use Rattle.mr_console.specs.declared.asking.Asked.TheVariants.{Nothing, Request, Bad}

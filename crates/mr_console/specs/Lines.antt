@@ -1,13 +1,10 @@
 -- What a line of a script says.
 use Rattle.std.specs.Prelude.{ℕ, List, map}
 use Rattle.std.specs.Cow.{cow_slice_items}
+use Rattle.mr_inline.specs.Limits.{line_limit}
 use Rattle.mr_inline.specs.Line.{IsLine, IsBlank, IsLineText}
 use Rattle.mr_console.specs.declared.line.ScriptLine.{ScriptLine}
 use Rattle.mr_console.specs.declared.line.ScriptLine.TheVariants.{Words, Blank, Bad}
-
--- the most bytes before the line feed of a line
-abbrev pub line_limit : ℕ
-line_limit = 65536
 
 -- These bytes are a line of these words, by the rules of requests on a line; or a line without words; or no line.
 abbrev pub Reads : List ℕ → ScriptLine → Type 0

@@ -7,7 +7,7 @@ use Rattle.mr_client.specs.Replies.{IsReply}
 use Rattle.mr_inline.specs.Line.{IsBlank}
 use Rattle.mr_console.specs.declared.ending.Ending.{Ending}
 use Rattle.mr_console.specs.Inputs.{IsFed, IsRest}
-use Rattle.mr_console.specs.Lines.{line_limit}
+use Rattle.mr_inline.specs.Limits.{line_limit}
 use Rattle.mr_console.specs.Outputs.{IsBegun}
 use Rattle.mr_console.specs.Asking.{Asks, AsksNobody}
 use Rattle.mr_console.specs.Telling.{bad_line, end_line, late, reply_line}

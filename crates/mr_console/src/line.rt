@@ -1,14 +1,12 @@
 // A line of a script.
 ghost use Rattle.std.specs.Prelude.{IfOk, OnErr};
 ghost use Rattle.mr_inline.specs.Scans.{BeginsWithLine};
-ghost use Rattle.mr_console.specs.Lines.{line_limit, Reads};
+ghost use Rattle.mr_inline.specs.Limits.{line_limit};
+ghost use Rattle.mr_console.specs.Lines.{Reads};
 
-use mr_inline::{LineScan, next_line};
+use mr_inline::{LINE_LIMIT, LineScan, next_line};
 use std::alloc::{AllocError, Global};
 use std::borrow::CowSlice;
-
-/// So many bytes may stand before the line feed of a line.
-const LINE_LIMIT: usize = 65_536;
 
 /// What a line of a script says.
 #[derive(Drop)]

@@ -2,7 +2,7 @@
 use Rattle.std.proofs.Common.{◌≡◌, ◌∙◌, ◌≤◌, inl, inr, ℕ, List, Option, Some, Result, Ok, Err, sym, ap, subst}
 use Rattle.mr_links.specs.declared.link_id.LinkId.{LinkId}
 use Rattle.mr_entries.specs.Dataset.{Dataset}
-use Rattle.mr_lines.specs.Lines.{most_counted}
+use Rattle.mr_peer_lines.specs.Lines.{most_counted}
 use Rattle.mr_follow.specs.State.{FollowState}
 use Rattle.mr_follow.specs.Rows.{FollowRow, Keeps, Installs, Follows, Stays}
 use Rattle.mr_follow.specs.declared.phase.Phase.TheVariants as phase

@@ -1,5 +1,5 @@
 ghost use Rattle.std.specs.Prelude.{◌≡◌, ◌≤◌, ◌<◌, ◌+◌, ◌^◌, IfSome, IsSome, [], length, true, false, None, option_map, OnOk, OnErr};
-ghost use Rattle.mr_lines.specs.Lines.{most_counted};
+ghost use Rattle.mr_peer_lines.specs.Lines.{most_counted};
 ghost use Rattle.mr_follow.specs.State.{IsFollower};
 ghost use Rattle.mr_course.specs.State.{CourseState, IsCourse, CountsUnread, name_of, phase_of, dialled, left, spoiled, promoted, obeys, grows, fed};
 ghost use Rattle.mr_course.specs.Rows.{Listens};

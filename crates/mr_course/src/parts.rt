@@ -1,5 +1,5 @@
 ghost use Rattle.std.specs.Prelude.{◌≡◌, ◌≤◌, ◌<◌, ◌+◌, ◌^◌, IfSome, IsSome, [], length, None, option_map, OnOk, OnErr};
-ghost use Rattle.mr_lines.specs.Lines.{most_counted};
+ghost use Rattle.mr_peer_lines.specs.Lines.{most_counted};
 ghost use Rattle.mr_follow.specs.State.{IsFollower, IsOffer};
 ghost use Rattle.mr_course.specs.State.{CourseState, CountsUnread, offer_of, name_of, phase_of, dialled, left, spoiled, promoted, obeys, grows, fed};
 ghost use Rattle.mr_course.specs.Rows.{Listens};

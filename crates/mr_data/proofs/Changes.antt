@@ -6,13 +6,13 @@ use Rattle.std.specs.List.{list_all}
 use Rattle.std.specs.Str.{bytes_eq}
 use Rattle.std.specs.FinMap.{get, empty}
 use Rattle.mr_map.specs.Bytes.{Bytes}
-use Rattle.mr_value.specs.Words.{fits}
+use Rattle.mr_bytes.specs.Words.{fits}
 use Rattle.mr_value.specs.Lists.{without}
 use Rattle.mr_effect.specs.Effects.{words_fit, has_spelling, pair_fits, member_fits, has_score, is_some_of, is_deadline}
 use Rattle.mr_effect.specs.declared.effect.Effect.{Effect}
 use Rattle.mr_effect.specs.declared.effect.Effect.TheVariants as effect
-use Rattle.mr_value.specs.declared.ends.End.{End}
-use Rattle.mr_value.specs.declared.ends.Side.{Side}
+use Rattle.mr_bytes.specs.declared.ends.End.{End}
+use Rattle.mr_bytes.specs.declared.ends.Side.{Side}
 use Rattle.mr_entries.specs.declared.value.Value.TheVariants as value
 use Rattle.mr_entries.specs.declared.value.Entry.{Entry}
 use Rattle.mr_entries.specs.Dataset.{Dataset}

@@ -14,7 +14,7 @@ use Rattle.std.proofs.Math.Seq.{take-append_seam}
 use Rattle.std.proofs.lemmas.List.Elements.{filter-append, All-from_recursion, recursion_from_All}
 use Rattle.std.proofs.lemmas.List.Sorted.{All-permutation}
 use Rattle.mr_map.specs.Bytes.{Bytes}
-use Rattle.mr_value.specs.Words.{fits}
+use Rattle.mr_bytes.specs.Words.{fits}
 use Rattle.mr_zset.specs.Order.{in_order}
 use Rattle.mr_zset.specs.Pairs.{pair_cmp}
 use Rattle.mr_zset.proofs.Orders.{Above, Ascends, Ascends-in_order, IsPermutation-in_order, sorted_filter}

@@ -4,8 +4,8 @@ use Rattle.std.specs.Prelude.{◌≢◌, IsTrue}
 use Rattle.std.specs.List.{list_all}
 use Rattle.std.specs.FinMap.{insert}
 use Rattle.mr_map.specs.Bytes.{Bytes, ByteMap}
-use Rattle.mr_value.specs.Words.{fits}
-use Rattle.mr_value.specs.declared.ends.End.{End}
+use Rattle.mr_bytes.specs.Words.{fits}
+use Rattle.mr_bytes.specs.declared.ends.End.{End}
 use Rattle.mr_effect.specs.Effects.{pair_fits, member_fits, has_score, is_some_of}
 use Rattle.mr_effect.specs.declared.effect.Effect.TheVariants as effect
 use Rattle.mr_entries.specs.Collections.{with_fields, with_members, with_scores, put_item, pushed}

@@ -9,8 +9,8 @@ use Rattle.std.proofs.lemmas.Bool.{ne_eqb}
 use Rattle.std.proofs.lemmas.Cmp.{nat_list_cmp_total}
 use Rattle.std.proofs.lemmas.List.Elements.{recursion_from_All, All-from_recursion}
 use Rattle.mr_map.specs.Bytes.{Bytes, bytes_cmp}
-use Rattle.mr_value.specs.Words.{fits}
-use Rattle.mr_value.specs.declared.ends.End.TheVariants.{Right}
+use Rattle.mr_bytes.specs.Words.{fits}
+use Rattle.mr_bytes.specs.declared.ends.End.TheVariants.{Right}
 use Rattle.mr_effect.specs.Effects.{pair_fits, has_spelling, words_fit}
 use Rattle.mr_effect.specs.Spelling.{IsShort}
 use Rattle.mr_effect.specs.declared.effect.Effect.{Effect}

@@ -3,7 +3,7 @@ use Rattle.std.specs.Prelude.{◌≡◌, ◌<◌, ℤ, int_le, List, length, Boo
 use Rattle.std.specs.List.{All}
 use Rattle.std.specs.FinMap.{get, len, contains_key, retain_keys}
 use Rattle.mr_map.specs.Bytes.{Bytes, ByteMap}
-use Rattle.mr_value.specs.Words.{fits}
+use Rattle.mr_bytes.specs.Words.{fits}
 use Rattle.mr_score.specs.Score.{is_score}
 use Rattle.mr_effect.specs.Effects.{is_deadline}
 use Rattle.mr_entries.specs.Dataset.{Dataset}

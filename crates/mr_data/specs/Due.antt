@@ -4,7 +4,7 @@ use Rattle.std.specs.List.{flat_map}
 use Rattle.std.specs.Option.{option_and_then}
 use Rattle.std.specs.FinMap.{get, keys}
 use Rattle.mr_map.specs.Bytes.{Bytes}
-use Rattle.mr_value.specs.Words.{fits}
+use Rattle.mr_bytes.specs.Words.{fits}
 use Rattle.mr_effect.specs.Spelling.{size}
 use Rattle.mr_effect.specs.declared.effect.Effect.{Effect}
 use Rattle.mr_effect.specs.declared.effect.Effect.TheVariants as effect

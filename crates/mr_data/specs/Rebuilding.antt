@@ -3,7 +3,7 @@ use Rattle.std.specs.Prelude.{ℤ, List, [], ◌∷◌, ◌++◌, map, Option, S
 use Rattle.std.specs.List.{flat_map}
 use Rattle.std.specs.FinMap.{entries, get, keys}
 use Rattle.mr_map.specs.Bytes.{Bytes}
-use Rattle.mr_value.specs.declared.ends.End.TheVariants.{Right}
+use Rattle.mr_bytes.specs.declared.ends.End.TheVariants.{Right}
 use Rattle.mr_effect.specs.declared.effect.Effect.{Effect}
 use Rattle.mr_effect.specs.declared.effect.Effect.TheVariants as effect
 use Rattle.mr_entries.specs.Cuts.{cut}

@@ -15,7 +15,7 @@ pub use laws::{
     effects_come_in_parts, rebuilding_has_command_texts, rebuilding_makes_the_dataset,
     renaming_to_itself_changes_nothing, seen_is_what_is_not_expired, texts_are_set_in_order,
 };
-pub use mr_effect::{Effect, Pairs, Scores, Words, decode, encode, encode_all};
+pub use mr_bytes::{End, Side};
+pub use mr_effect::{Effect, EffectPairs, EffectWords, Scores, decode, encode, encode_all};
 pub use mr_entries::{ApplyFault, Entry, Value};
-pub use mr_value::{End, Side};
 pub use plan::Plan;

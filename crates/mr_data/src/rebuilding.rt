@@ -1,7 +1,7 @@
 // The effects that make a dataset again, as text.
 ghost use Rattle.std.specs.Prelude.{◌≡◌, ◌≤◌, ◌++◌, All, map, length, IfOk, IsTrue, OnOk, Some};
 ghost use Rattle.std.specs.FinMap.{empty, get};
-ghost use Rattle.mr_value.specs.declared.ends.End.TheVariants.{Right};
+ghost use Rattle.mr_bytes.specs.declared.ends.End.TheVariants.{Right};
 ghost use Rattle.mr_effect.specs.declared.effect.Effect.TheVariants as made;
 ghost use Rattle.mr_effect.specs.Effects.{has_spelling, words_fit};
 ghost use Rattle.mr_effect.specs.Spelling.{text, texts, IsShort};
@@ -12,9 +12,10 @@ ghost use Rattle.mr_data.specs.Meaning.{apply_all};
 ghost use Rattle.mr_data.specs.Rebuilding.{rebuilding, rebuilt, rebuilt_value, rebuilt_deadline};
 
 use crate::dataset::Dataset;
-use mr_effect::{Effect, Pairs, Scores, Words, encode};
+use mr_bytes::{End, Word};
+use mr_effect::{Effect, EffectPairs, EffectWords, Scores, encode};
 use mr_entries::Value;
-use mr_value::{End, Hash, ListValue, SetValue, Word};
+use mr_value::{Hash, ListValue, SetValue};
 use mr_zset::ZSet;
 use std::alloc::{AllocError, Global};
 
@@ -113,19 +114,23 @@ fn push_hash<'d>(
 ) -> Result<(), AllocError>
     ensures { OnOk result (out.new.items ≡ out.old.items ++ texts (rebuilt_value key.now (stored.Hash fields.now))) }
 {
-    let mut group = Pairs::new(alloc);
+    let mut group = EffectPairs::new(alloc);
     for (field, value) in fields.iter() {
         group.push(Word::borrowed(field), Word::borrowed(value.as_slice()))?;
         if group.len() == MOST_ITEMS {
             push_fields(key, group, out)?;
-            group = Pairs::new(alloc);
+            group = EffectPairs::new(alloc);
         }
     }
     push_fields(key, group, out)
 }
 
 /// Appends the text of the effect that sets a group of fields, and nothing where it is empty.
-fn push_fields<'d>(key: &'d [u8], pairs: Pairs<'d>, out: &mut Vec<u8>) -> Result<(), AllocError>
+fn push_fields<'d>(
+    key: &'d [u8],
+    pairs: EffectPairs<'d>,
+    out: &mut Vec<u8>,
+) -> Result<(), AllocError>
     requires { length pairs ≤ most_items }
     ensures { OnOk result (out.new.items ≡ out.old.items ++ texts (map (made.SetFields key.now) (cut pairs.entry))) }
 {
@@ -145,19 +150,23 @@ fn push_list<'d>(
 ) -> Result<(), AllocError>
     ensures { OnOk result (out.new.items ≡ out.old.items ++ texts (rebuilt_value key.now (stored.List items.now))) }
 {
-    let mut group = Words::new(alloc);
+    let mut group = EffectWords::new(alloc);
     for item in items.iter() {
         group.push(Word::borrowed(item))?;
         if group.len() == MOST_ITEMS {
             push_items(key, group, out)?;
-            group = Words::new(alloc);
+            group = EffectWords::new(alloc);
         }
     }
     push_items(key, group, out)
 }
 
 /// Appends the text of the effect that puts a group of items at the right end, and nothing where it is empty.
-fn push_items<'d>(key: &'d [u8], items: Words<'d>, out: &mut Vec<u8>) -> Result<(), AllocError>
+fn push_items<'d>(
+    key: &'d [u8],
+    items: EffectWords<'d>,
+    out: &mut Vec<u8>,
+) -> Result<(), AllocError>
     requires { length items ≤ most_items }
     ensures { OnOk result (out.new.items ≡ out.old.items ++ texts (map (made.Push key.now Right) (cut items.entry))) }
 {
@@ -178,19 +187,23 @@ fn push_set<'d>(
 ) -> Result<(), AllocError>
     ensures { OnOk result (out.new.items ≡ out.old.items ++ texts (rebuilt_value key.now (stored.Set members.now))) }
 {
-    let mut group = Words::new(alloc);
+    let mut group = EffectWords::new(alloc);
     for member in members.members() {
         group.push(Word::borrowed(member))?;
         if group.len() == MOST_ITEMS {
             push_members(key, group, out)?;
-            group = Words::new(alloc);
+            group = EffectWords::new(alloc);
         }
     }
     push_members(key, group, out)
 }
 
 /// Appends the text of the effect that adds a group of members, and nothing where it is empty.
-fn push_members<'d>(key: &'d [u8], members: Words<'d>, out: &mut Vec<u8>) -> Result<(), AllocError>
+fn push_members<'d>(
+    key: &'d [u8],
+    members: EffectWords<'d>,
+    out: &mut Vec<u8>,
+) -> Result<(), AllocError>
     requires { length members ≤ most_items }
     ensures { OnOk result (out.new.items ≡ out.old.items ++ texts (map (made.AddMembers key.now) (cut members.entry))) }
 {

@@ -10,7 +10,7 @@ use Rattle.std.specs.List.{flat_map, list_all}
 use Rattle.std.specs.Fmt.{signed_decimal}
 use Rattle.std.specs.Str.{bytes_eq}
 use Rattle.mr_map.specs.Bytes.{Bytes}
-use Rattle.mr_value.specs.Number.{is_i64, number_of}
+use Rattle.mr_bytes.specs.Number.{is_i64, number_of}
 use Rattle.mr_score.specs.Score.{is_score}
 use Rattle.mr_score.specs.Texts.{within_limit}
 use Rattle.mr_score.proofs.TextLemmas.{score_fits}
@@ -22,11 +22,11 @@ use Rattle.mr_effect.specs.declared.name.EffectName.{EffectName}
 use Rattle.mr_effect.specs.declared.name.EffectName.TheVariants as name
 use Rattle.mr_effect.specs.declared.effect.Effect.{Effect}
 use Rattle.mr_effect.specs.declared.effect.Effect.TheVariants as effect
-use Rattle.mr_value.specs.declared.ends.End.{End}
-use Rattle.mr_value.specs.declared.ends.End.TheVariants.{Left, Right}
-use Rattle.mr_value.specs.declared.ends.Side.{Side}
-use Rattle.mr_value.specs.declared.ends.Side.TheVariants.{Before, After}
-use Rattle.mr_value.proofs.Numbers.{number_of-signed_decimal, number_text}
+use Rattle.mr_bytes.specs.declared.ends.End.{End}
+use Rattle.mr_bytes.specs.declared.ends.End.TheVariants.{Left, Right}
+use Rattle.mr_bytes.specs.declared.ends.Side.{Side}
+use Rattle.mr_bytes.specs.declared.ends.Side.TheVariants.{Before, After}
+use Rattle.mr_bytes.proofs.Numbers.{number_of-signed_decimal, number_text}
 use Rattle.mr_effect.proofs.Deadlines.{deadline_fits}
 use Rattle.mr_effect.proofs.NameLemmas.{same_bytes, named_itself, named_is}
 

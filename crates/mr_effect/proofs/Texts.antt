@@ -5,10 +5,11 @@ use Rattle.std.specs.Fmt.{signed_decimal}
 use Rattle.std.specs.Prelude.{All}
 use Rattle.std.proofs.lemmas.Bool.{leb-true, ltb-true}
 use Rattle.std.proofs.lemmas.List.Elements.{All-nil, All-cons}
+use Rattle.mr_inline.specs.Limits.{word_limit}
 use Rattle.mr_map.specs.Bytes.{Bytes}
-use Rattle.mr_value.specs.Words.{fits}
-use Rattle.mr_value.specs.Number.{is_i64}
-use Rattle.mr_value.proofs.Numbers.{bounds}
+use Rattle.mr_bytes.specs.Words.{fits}
+use Rattle.mr_bytes.specs.Number.{is_i64}
+use Rattle.mr_bytes.proofs.Numbers.{bounds}
 use Rattle.mr_resp.specs.Spelling.{number_line, bulk, array}
 use Rattle.mr_resp.specs.Command.{IsCommandText}
 use Rattle.mr_resp.specs.Usual.{commands, commands-word, commands-words}
@@ -21,17 +22,17 @@ use Rattle.mr_effect.specs.declared.name.EffectName.{EffectName}
 use Rattle.mr_effect.specs.declared.name.EffectName.TheVariants as name
 use Rattle.mr_effect.specs.declared.effect.Effect.{Effect}
 use Rattle.mr_effect.specs.declared.effect.Effect.TheVariants as effect
-use Rattle.mr_value.specs.declared.ends.End.{End}
-use Rattle.mr_value.specs.declared.ends.End.TheVariants.{Left, Right}
-use Rattle.mr_value.specs.declared.ends.Side.{Side}
-use Rattle.mr_value.specs.declared.ends.Side.TheVariants.{Before, After}
+use Rattle.mr_bytes.specs.declared.ends.End.{End}
+use Rattle.mr_bytes.specs.declared.ends.End.TheVariants.{Left, Right}
+use Rattle.mr_bytes.specs.declared.ends.Side.{Side}
+use Rattle.mr_bytes.specs.declared.ends.Side.TheVariants.{Before, After}
 use Rattle.mr_effect.proofs.Deadlines.{deadline_fits}
 use Rattle.mr_effect.proofs.Readings.{one_effect}
 
 -- each word is within the word limit
 abbrev AreShort : List Bytes → Type 0
 AreShort [] = Unit {0}
-AreShort (w ∷ ws) = (length w ≤ 16777216) × AreShort ws
+AreShort (w ∷ ws) = (length w ≤ word_limit) × AreShort ws
 
 bulks_unique : (ws vs : List Bytes) (x y : List ℕ) → AreShort ws → AreShort vs → length ws ≡ length vs → flat_map bulk ws ++ x ≡ flat_map bulk vs ++ y → (ws ≡ vs) × (x ≡ y)
 bulks_unique [] [] x y s t n e = (refl, e)
@@ -52,7 +53,7 @@ array_unique ws vs x y few_ws few_vs s t e =
     let line = line_unique (length ws) (length vs) (flat_map bulk ws ++ x) (flat_map bulk vs ++ y) few_ws few_vs both in
     bulks_unique ws vs x y s t line.0 line.1
 
-short : (w : Bytes) → IsTrue (fits w) → length w ≤ 16777216
+short : (w : Bytes) → IsTrue (fits w) → length w ≤ word_limit
 short w h = omega (arith, leb-true _ _ h)
 
 first : (a b : Bool) → IsTrue (a && b) → IsTrue a
@@ -63,7 +64,7 @@ second : (a b : Bool) → IsTrue (a && b) → IsTrue b
 second true b p = p
 second false b p = cc
 
-short_number : (n : ℤ) → IsTrue (is_i64 n) → length (signed_decimal n) ≤ 16777216
+short_number : (n : ℤ) → IsTrue (is_i64 n) → length (signed_decimal n) ≤ word_limit
 short_number (pos n) h = let small : n < 2 ^ 63 = ltb-true _ _ h in omega (arith, (bounds n (omega arith)).1)
 short_number (negsuc n) h = let small : n < 2 ^ 63 = ltb-true _ _ h in omega (arith, (bounds (suc n) (omega arith)).1)
 
@@ -83,7 +84,7 @@ short_scores (p ∷ ps) s h =
     let score = short_number p.1 (score_fits p.1 (first (has_score p) _ s)) in
     (score, (short p.0 (first (member_fits p) _ h), short_scores ps (second (has_score p) _ s) (second (member_fits p) _ h)))
 
-short_name : (n : EffectName) → length (text_of n) ≤ 16777216
+short_name : (n : EffectName) → length (text_of n) ≤ word_limit
 short_name name.Set = omega arith
 short_name name.MSet = omega arith
 short_name name.Append = omega arith
@@ -112,11 +113,11 @@ short_name name.SMove = omega arith
 short_name name.ZAdd = omega arith
 short_name name.ZRem = omega arith
 
-short_end : (e : End) → length (end_word e) ≤ 16777216
+short_end : (e : End) → length (end_word e) ≤ word_limit
 short_end Left = omega arith
 short_end Right = omega arith
 
-short_side : (s : Side) → length (side_word s) ≤ 16777216
+short_side : (s : Side) → length (side_word s) ≤ word_limit
 short_side Before = omega arith
 short_side After = omega arith
 

@@ -2,8 +2,8 @@
 use Rattle.std.specs.Prelude.{ℤ, pos, int_le, ◌^◌, List, [], ◌∷◌, Bool, true, false, ◌&&◌}
 use Rattle.std.specs.List.{list_all}
 use Rattle.mr_map.specs.Bytes.{Bytes}
-use Rattle.mr_value.specs.Number.{is_i64}
-use Rattle.mr_value.specs.Words.{fits}
+use Rattle.mr_bytes.specs.Number.{is_i64}
+use Rattle.mr_bytes.specs.Words.{fits}
 use Rattle.mr_score.specs.Score.{is_score}
 use Rattle.mr_effect.specs.declared.effect.Effect.{Effect}
 use Rattle.mr_effect.specs.declared.effect.Effect.TheVariants as effect

@@ -7,7 +7,7 @@ ghost use Rattle.mr_effect.specs.Reading.{reading, effect_of};
 use crate::effect::Effect;
 use crate::name::EffectName;
 use crate::reading;
-use mr_value::End;
+use mr_bytes::End;
 use std::alloc::{AllocError, Global};
 use std::borrow::CowSlice;
 

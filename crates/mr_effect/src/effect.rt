@@ -1,11 +1,11 @@
 // What a write does.
 ghost use Rattle.std.specs.Prelude.{◌≡◌};
-ghost use Rattle.mr_value.specs.Number.{is_i64};
+ghost use Rattle.mr_bytes.specs.Number.{is_i64};
 ghost use Rattle.mr_effect.specs.Effects.{words_fit, has_spelling};
 
 use crate::deadline::is_deadline;
-use crate::words::{Pairs, Scores, Words};
-use mr_value::{End, Side, Word, fits};
+use crate::words::{EffectPairs, EffectWords, Scores};
+use mr_bytes::{End, Side, Word, fits};
 
 /// What a write does to a dataset, free of clock and chance.
 #[derive(Drop)]
@@ -28,7 +28,7 @@ pub enum Effect<'a> {
     },
     /// Keys get these texts, one after another, as `Set` does it.
     MSet {
-        pairs: Pairs<'a>,
+        pairs: EffectPairs<'a>,
     },
     /// A text is put behind a key's text. A key that isn't there has an empty one.
     Append {
@@ -72,18 +72,18 @@ pub enum Effect<'a> {
     /// Fields of a hash get these values, one after another.
     SetFields {
         key: Word<'a>,
-        pairs: Pairs<'a>,
+        pairs: EffectPairs<'a>,
     },
     /// Fields of a hash go. One that isn't there is left alone.
     RemoveFields {
         key: Word<'a>,
-        fields: Words<'a>,
+        fields: EffectWords<'a>,
     },
     /// Items are put at an end of a list, one after another.
     Push {
         key: Word<'a>,
         end: End,
-        items: Words<'a>,
+        items: EffectWords<'a>,
     },
     /// So many items are taken from an end of a list.
     Pop {
@@ -126,12 +126,12 @@ pub enum Effect<'a> {
     /// Members come into a set.
     AddMembers {
         key: Word<'a>,
-        members: Words<'a>,
+        members: EffectWords<'a>,
     },
     /// Members go from a set.
     RemoveMembers {
         key: Word<'a>,
-        members: Words<'a>,
+        members: EffectWords<'a>,
     },
     /// A member goes from one set into another, or into the same.
     MoveMember {
@@ -147,7 +147,7 @@ pub enum Effect<'a> {
     /// Members go from a sorted set. One that isn't there is left alone.
     RemoveScores {
         key: Word<'a>,
-        members: Words<'a>,
+        members: EffectWords<'a>,
     },
 }
 

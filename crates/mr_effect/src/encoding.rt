@@ -10,10 +10,10 @@ ghost use Rattle.mr_effect.specs.Spelling.{text, texts, push_name, pop_name, end
 
 use crate::effect::Effect;
 use crate::name::EffectName;
-use crate::words::{Pairs, Scores, Words};
+use crate::words::{EffectPairs, EffectWords, Scores};
 use itoa::Buffer;
+use mr_bytes::{End, Side, Word};
 use mr_resp::{push_request, push_word, push_word_count};
-use mr_value::{End, Side, Word};
 use std::alloc::AllocError;
 
 /// The name of an effect that puts items at this end of a list.
@@ -79,7 +79,7 @@ fn push_head(
 fn push_words(
     name: EffectName,
     key: &Word<'_>,
-    words: &Words<'_>,
+    words: &EffectWords<'_>,
     out: &mut Vec<u8>,
 ) -> Result<(), AllocError>
     ensures ok { OnOk result (out.new.items ≡ out.old.items ++ array (text_of name ∷ key.now ∷ words.now)) }
@@ -104,7 +104,7 @@ fn push_pair(pair: &(Word<'_>, Word<'_>), out: &mut Vec<u8>) -> Result<(), Alloc
 
 /// Appends each key or field as a word, with its value behind it. What was there stays in front, also after an `Err`.
 #[tactic(auto, using(crate::proofs::Appending::steps))]
-fn push_each_pair(pairs: &Pairs<'_>, out: &mut Vec<u8>) -> Result<(), AllocError>
+fn push_each_pair(pairs: &EffectPairs<'_>, out: &mut Vec<u8>) -> Result<(), AllocError>
     ensures ok { OnOk result (out.new.items ≡ out.old.items ++ flat_map bulk (flat_map pair_words pairs.now)) }
     ensures kept { Extends out.old.items out.new.items }
 {
@@ -116,7 +116,7 @@ fn push_each_pair(pairs: &Pairs<'_>, out: &mut Vec<u8>) -> Result<(), AllocError
 
 /// Appends a request: MSET, and keys each with its value behind it. What was there stays in front, also after an `Err`.
 #[tactic(auto, using(crate::proofs::Appending::steps))]
-fn push_keys(pairs: &Pairs<'_>, out: &mut Vec<u8>) -> Result<(), AllocError>
+fn push_keys(pairs: &EffectPairs<'_>, out: &mut Vec<u8>) -> Result<(), AllocError>
     ensures ok { OnOk result (out.new.items ≡ out.old.items ++ array (text_of EffectName.MSet ∷ flat_map pair_words pairs.now)) }
     ensures kept { Extends out.old.items out.new.items }
 {
@@ -129,7 +129,7 @@ fn push_keys(pairs: &Pairs<'_>, out: &mut Vec<u8>) -> Result<(), AllocError>
 /// Appends a request: HSET, a key, and fields each with its value behind it. What was there stays in front, also after
 /// an `Err`.
 #[tactic(auto, using(crate::proofs::Appending::steps))]
-fn push_fields(key: &Word<'_>, pairs: &Pairs<'_>, out: &mut Vec<u8>) -> Result<(), AllocError>
+fn push_fields(key: &Word<'_>, pairs: &EffectPairs<'_>, out: &mut Vec<u8>) -> Result<(), AllocError>
     ensures ok { OnOk result (out.new.items ≡ out.old.items ++ array (text_of EffectName.HSet ∷ key.now ∷ flat_map pair_words pairs.now)) }
     ensures kept { Extends out.old.items out.new.items }
 {

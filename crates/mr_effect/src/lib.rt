@@ -16,4 +16,4 @@ pub use effect::Effect;
 pub use encoding::{encode, encode_all};
 pub use laws::{effects_are_command_texts, effects_are_told_apart, texts_come_in_parts};
 pub use name::EffectName;
-pub use words::{Pairs, Scores, Words};
+pub use words::{EffectPairs, EffectWords, Scores};

@@ -5,9 +5,9 @@ ghost use Rattle.mr_effect.specs.Reading.{end_of, side_of, place_of, deadline_of
 
 use crate::deadline::is_deadline;
 use crate::effect::Effect;
-use crate::words::{Pairs, Scores, Words};
+use crate::words::{EffectPairs, EffectWords, Scores};
+use mr_bytes::{End, Side, Word, read_i64};
 use mr_score::is_score;
-use mr_value::{End, Side, Word, read_i64};
 use std::alloc::{AllocError, Global};
 use std::borrow::CowSlice;
 
@@ -80,10 +80,10 @@ fn score_of(word: &[u8]) -> Option<i64>
 fn pairs_of<'a>(
     alloc: Global,
     words: &'a [CowSlice<'_, u8>],
-) -> Result<Option<Pairs<'a>>, AllocError>
+) -> Result<Option<EffectPairs<'a>>, AllocError>
     ensures { IfOk result (λ found. found ≡ pairs_of (map cow_slice_items words.now)) }
 {
-    let mut pairs = Pairs::new(alloc);
+    let mut pairs = EffectPairs::new(alloc);
     let mut rest = words;
     while let [field, value, later @ ..] = rest {
         pairs.push(borrowed(field), borrowed(value))?;
@@ -301,7 +301,7 @@ pub(crate) fn remove_fields_of<'a>(
         [] | [_] => Ok(None),
         [key, rest @ ..] => Ok(Some(Effect::RemoveFields {
             key: borrowed(key),
-            fields: Words::borrowed(alloc, rest)?,
+            fields: EffectWords::borrowed(alloc, rest)?,
         })),
     }
 }
@@ -319,7 +319,7 @@ pub(crate) fn push_of<'a>(
         [key, rest @ ..] => Ok(Some(Effect::Push {
             key: borrowed(key),
             end,
-            items: Words::borrowed(alloc, rest)?,
+            items: EffectWords::borrowed(alloc, rest)?,
         })),
     }
 }
@@ -421,7 +421,7 @@ pub(crate) fn add_members_of<'a>(
         [] | [_] => Ok(None),
         [key, rest @ ..] => Ok(Some(Effect::AddMembers {
             key: borrowed(key),
-            members: Words::borrowed(alloc, rest)?,
+            members: EffectWords::borrowed(alloc, rest)?,
         })),
     }
 }
@@ -437,7 +437,7 @@ pub(crate) fn remove_members_of<'a>(
         [] | [_] => Ok(None),
         [key, rest @ ..] => Ok(Some(Effect::RemoveMembers {
             key: borrowed(key),
-            members: Words::borrowed(alloc, rest)?,
+            members: EffectWords::borrowed(alloc, rest)?,
         })),
     }
 }
@@ -488,7 +488,7 @@ pub(crate) fn remove_scores_of<'a>(
         [] | [_] => Ok(None),
         [key, rest @ ..] => Ok(Some(Effect::RemoveScores {
             key: borrowed(key),
-            members: Words::borrowed(alloc, rest)?,
+            members: EffectWords::borrowed(alloc, rest)?,
         })),
     }
 }

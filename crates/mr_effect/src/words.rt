@@ -2,22 +2,22 @@
 ghost use Rattle.std.specs.Prelude.{◌≡◌, ◌==◌, ◌<◌, ◌^◌, [], ◌∷◌, ◌++◌, map, length, IfOk, OnOk, OnErr};
 ghost use Rattle.std.specs.Cow.{cow_slice_items};
 ghost use Rattle.std.specs.List.{list_all};
-ghost use Rattle.mr_value.specs.Words.{fits};
+ghost use Rattle.mr_bytes.specs.Words.{fits};
 ghost use Rattle.mr_effect.specs.Effects.{pair_fits, member_fits, has_score};
 
+use mr_bytes::{Word, fits};
 use mr_score::is_score;
-use mr_value::{Word, fits};
 use std::alloc::{AllocError, Global};
 use std::borrow::CowSlice;
 use std::marker::Model;
 
 /// Words in order, seen as a list of byte strings.
 #[derive(Drop)]
-pub struct Words<'a> {
+pub struct EffectWords<'a> {
     items: Vec<Word<'a>>,
 }
 
-impl<'a> Model for Words<'a> {
+impl<'a> Model for EffectWords<'a> {
     ghost use Rattle.std.specs.Prelude.{List, ℕ};
 
     ghost Value = { List (List ℕ) };
@@ -25,25 +25,28 @@ impl<'a> Model for Words<'a> {
     ghost view = { λ a. a.items.items };
 }
 
-impl<'a> Words<'a> {
+impl<'a> EffectWords<'a> {
     /// No word. It takes no memory.
-    pub fn new(alloc: Global) -> Words<'a>
+    pub fn new(alloc: Global) -> EffectWords<'a>
         ensures { result ≡ [] }
     {
-        Words {
+        EffectWords {
             items: Vec::new(alloc),
         }
     }
 
     /// Words that lie elsewhere.
-    pub fn borrowed(alloc: Global, words: &'a [CowSlice<'_, u8>]) -> Result<Words<'a>, AllocError>
+    pub fn borrowed(
+        alloc: Global,
+        words: &'a [CowSlice<'_, u8>],
+    ) -> Result<EffectWords<'a>, AllocError>
         ensures { IfOk result (λ ws. ws ≡ map cow_slice_items words.now) }
     {
         let mut items = Vec::with_capacity(alloc, words.len())?;
         for word in words {
             items.push(Word::borrowed(word.as_slice()))?;
         }
-        Ok(Words { items })
+        Ok(EffectWords { items })
     }
 
     /// Puts a word behind the others.
@@ -102,11 +105,11 @@ fn all_fit(words: &[Word<'_>]) -> bool
 
 /// Keys or fields with their values, in order.
 #[derive(Drop)]
-pub struct Pairs<'a> {
+pub struct EffectPairs<'a> {
     pairs: Vec<(Word<'a>, Word<'a>)>,
 }
 
-impl<'a> Model for Pairs<'a> {
+impl<'a> Model for EffectPairs<'a> {
     ghost use Rattle.std.specs.Prelude.{List, ℕ};
 
     ghost Value = { List (List ℕ × List ℕ) };
@@ -114,12 +117,12 @@ impl<'a> Model for Pairs<'a> {
     ghost view = { λ a. a.pairs.items };
 }
 
-impl<'a> Pairs<'a> {
+impl<'a> EffectPairs<'a> {
     /// No pair. It takes no memory.
-    pub fn new(alloc: Global) -> Pairs<'a>
+    pub fn new(alloc: Global) -> EffectPairs<'a>
         ensures { result ≡ [] }
     {
-        Pairs {
+        EffectPairs {
             pairs: Vec::new(alloc),
         }
     }

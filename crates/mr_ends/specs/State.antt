@@ -1,6 +1,7 @@
 -- What a contract sees of a node's ends of its links.
 use Rattle.std.specs.Prelude.{◌≡◌, ◌≢◌, ◌+◌, ◌++◌, ℕ, List, [], ◌∷◌, Bool, true, false, Option, None, Some, refl}
 use Rattle.std.specs.Coded.{Coded, code_by, coded×, coded_ℕ, coded_bool, coded_list, coded_option}
+use Rattle.mr_inline.specs.Limits.{text_limit}
 use Rattle.mr_resp.specs.Request.{IsRequest}
 use Rattle.mr_resp.specs.Usual.{usual}
 use Rattle.std.specs.FinMap as map
@@ -103,7 +104,7 @@ transaction_in shut = None
 
 -- the most unread bytes of an end that the node serves
 abbrev pub full : ℕ
-full = 33554432
+full = text_limit
 
 -- the node's end of a link
 abbrev pub end_at : Links EndState → LinkId → Option EndState

@@ -8,12 +8,10 @@ use crate::introduction::Introduction;
 use crate::kind::Kind;
 use crate::transaction::Transaction;
 use mr_buffer::Buffer;
+use mr_inline::TEXT_LIMIT;
 use mr_resp::Progress;
 use std::alloc::{AllocError, Global};
 use std::marker::Model;
-
-/// The most unread bytes of an end that the node serves.
-const FULL: usize = 33_554_432;
 
 /// Whose it is, what a client has begun there and not ended, what was fed and not used, how far the reader has gone over it, and what a replica told of itself.
 #[derive(Drop)]
@@ -101,7 +99,7 @@ impl End {
         requires { serves self.now ≡ true }
         ensures { IsRoom result self.now }
     {
-        FULL - self.unread.len()
+        TEXT_LIMIT - self.unread.len()
     }
 
     /// What it said of itself by REPLCONF.

@@ -4,11 +4,11 @@ use Rattle.std.specs.Prelude.{ℤ, negsuc, ◌==◌, slice_get, MatchOption, pos
 use Rattle.std.specs.Option.{option_map}
 use Rattle.std.proofs.lemmas.Bool.{le-leb, eqb-true}
 use Rattle.mr_map.specs.Bytes.{Bytes}
-use Rattle.mr_value.specs.declared.ends.End.{End}
-use Rattle.mr_value.specs.declared.ends.End.TheVariants.{Left, Right}
+use Rattle.mr_bytes.specs.declared.ends.End.{End}
+use Rattle.mr_bytes.specs.declared.ends.End.TheVariants.{Left, Right}
 use Rattle.mr_entries.specs.Collections.{popped, end_item, turned, may_take, place_beside}
-use Rattle.mr_value.specs.declared.ends.Side.{Side}
-use Rattle.mr_value.specs.declared.ends.Side.TheVariants.{Before, After}
+use Rattle.mr_bytes.specs.declared.ends.Side.{Side}
+use Rattle.mr_bytes.specs.declared.ends.Side.TheVariants.{Before, After}
 use Rattle.mr_value.specs.Lists.{first_place, without}
 
 record IsLast (xs : List Bytes) (i : ℕ) (x : Bytes) : Type 0 where

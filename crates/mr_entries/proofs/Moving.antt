@@ -8,7 +8,7 @@ use Rattle.std.specs.FinMap.{get, insert, get-insert, get-remove}
 use Rattle.std.proofs.lemmas.Cmp.{nat_list_cmp_total}
 use Rattle.std.proofs.lemmas.Slice.Eq.{bytes_eq-Decides}
 use Rattle.mr_map.specs.Bytes.{Bytes, bytes_cmp}
-use Rattle.mr_value.specs.declared.ends.End.{End}
+use Rattle.mr_bytes.specs.declared.ends.End.{End}
 use Rattle.mr_entries.specs.Dataset.{Dataset, put_at}
 use Rattle.mr_entries.specs.Collections.{end_item, pushed, with_members, without_members}
 use Rattle.mr_entries.specs.Steps.{Step, Kind, lists, sets, held, on, entry_of, deadline_of, push_step, pop_step, add_members_step, remove_members_step}

@@ -5,8 +5,8 @@ use Rattle.std.specs.FinMap.{empty, insert, len, len-empty}
 use Rattle.std.proofs.lemmas.Bool.{ne_eqb}
 use Rattle.mr_map.specs.Bytes.{Bytes, ByteMap, bytes_cmp}
 use Rattle.mr_effect.specs.Effects.{is_some_of}
-use Rattle.mr_value.specs.declared.ends.End.{End}
-use Rattle.mr_value.specs.declared.ends.End.TheVariants.{Left, Right}
+use Rattle.mr_bytes.specs.declared.ends.End.{End}
+use Rattle.mr_bytes.specs.declared.ends.End.TheVariants.{Left, Right}
 use Rattle.mr_entries.specs.Collections.{with_fields, without_fields, with_members, without_members, with_scores, without_scores, put_item, pushed}
 use Rattle.mr_entries.proofs.Maps.{some_len, remove_empty}
 

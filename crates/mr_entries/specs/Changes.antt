@@ -6,7 +6,7 @@ use Rattle.std.specs.Str.{bytes_eq}
 use Rattle.mr_map.specs.Bytes.{Bytes}
 use Rattle.mr_effect.specs.declared.effect.Effect.{Effect}
 use Rattle.mr_effect.specs.declared.effect.Effect.TheVariants as effect
-use Rattle.mr_value.specs.declared.ends.End.{End}
+use Rattle.mr_bytes.specs.declared.ends.End.{End}
 use Rattle.mr_entries.specs.Dataset.{Dataset, put_at}
 use Rattle.mr_entries.specs.Collections.{end_item}
 use Rattle.mr_entries.specs.Steps.{Step, lists, held, without_deadline, set_step, set_until_step, set_keeping_step, del_step, expire_step, persist_step, append_step, set_range_step, increase_step, set_fields_step, remove_fields_step, push_step, pop_step, set_item_step, insert_item_step, remove_items_step, trim_step, turn_step, add_members_step, remove_members_step, set_scores_step, remove_scores_step}

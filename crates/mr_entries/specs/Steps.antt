@@ -4,14 +4,14 @@ use Rattle.std.specs.Option.{option_map, option_and_then}
 use Rattle.std.specs.FinMap.{empty, len}
 use Rattle.mr_map.specs.Bytes.{Bytes, ByteMap}
 use Rattle.mr_value.specs.Lists.{without}
-use Rattle.mr_value.specs.Texts.{overwritten}
+use Rattle.mr_bytes.specs.Texts.{overwritten}
 use Rattle.mr_entries.specs.Texts.{fitting, increased}
 use Rattle.mr_entries.specs.Collections.{with_fields, without_fields, with_members, without_members, with_scores, without_scores, pushed, may_take, popped, turned, is_place_of, is_part_of, place_beside}
 use Rattle.mr_entries.specs.declared.value.Value.{Value}
 use Rattle.mr_entries.specs.declared.value.Value.TheVariants as value
 use Rattle.mr_entries.specs.declared.value.Entry.{Entry}
-use Rattle.mr_value.specs.declared.ends.End.{End}
-use Rattle.mr_value.specs.declared.ends.Side.{Side}
+use Rattle.mr_bytes.specs.declared.ends.End.{End}
+use Rattle.mr_bytes.specs.declared.ends.Side.{Side}
 
 -- A step says what becomes of the entry at one key. It answers nothing where it is undefined.
 abbrev pub Step : Type 0

@@ -3,8 +3,8 @@ use Rattle.std.specs.Prelude.{ℤ, ◌+ℤ◌, if◌then◌else◌, Option, Some
 use Rattle.std.specs.Option.{option_map, option_and_then}
 use Rattle.std.specs.Fmt.{signed_decimal}
 use Rattle.mr_map.specs.Bytes.{Bytes}
-use Rattle.mr_value.specs.Number.{is_i64, number_of}
-use Rattle.mr_value.specs.Words.{fits}
+use Rattle.mr_bytes.specs.Number.{is_i64, number_of}
+use Rattle.mr_bytes.specs.Words.{fits}
 
 -- the text, where it is within the word limit
 abbrev pub fitting : Bytes → Option Bytes

@@ -10,8 +10,9 @@ ghost use Rattle.mr_entries.specs.Steps.{deadline_step};
 use crate::fault::ApplyFault;
 use crate::timed_key::TimedKey;
 use crate::value::{Entry, Value};
-use mr_map::{KeyedMap, Keys};
-use mr_value::{Bytes, CompactBytes, Word};
+use mr_bytes::Word;
+use mr_map::{KeyedMap, Keys, ShortKey};
+use mr_value::CompactBytes;
 use std::alloc::{AllocError, Global};
 use std::collections::{BTreeSet, btree_set};
 use std::hash::RandomState;
@@ -20,6 +21,7 @@ use std::marker::Model;
 /// Entries by key, seen as a finite map, with an index of their deadlines beside them.
 pub(crate) struct Keyspace {
     alloc: Global,
+    seed: RandomState,
     by_key: KeyedMap<Entry>,
     // Exactly the deadlines of the entries.
     timed_keys: BTreeSet<TimedKey>,
@@ -30,6 +32,7 @@ impl Drop for Keyspace {
     fn drop(self) {
         let Keyspace {
             alloc: _,
+            seed: _,
             by_key: _,
             timed_keys: _,
         } = self;
@@ -60,6 +63,7 @@ impl Keyspace {
     {
         Keyspace {
             alloc,
+            seed,
             by_key: KeyedMap::new(alloc, seed),
             timed_keys: BTreeSet::new(alloc),
         }
@@ -142,13 +146,12 @@ impl Keyspace {
         ensures ok { OnOk result (self.new ≡ map.insert self.old key.entry entry) }
         ensures err { OnErr result (self.new ≡ self.old) }
     {
-        let key = key.into_bytes(self.alloc)?.into_vec();
         let Some(deadline) = entry.deadline else {
-            let _ = self.by_key.insert(key, entry)?;
+            insert(self.alloc, &mut self.by_key, key, entry)?;
             return Ok(());
         };
         let name = CompactBytes::copied(self.alloc, key.as_slice())?;
-        let _ = self.by_key.insert(key, entry)?;
+        insert(self.alloc, &mut self.by_key, key, entry)?;
         match self.timed_keys.insert(TimedKey {
             deadline,
             key: name,
@@ -194,18 +197,19 @@ impl Keyspace {
         ensures removed { self.new ≡ map.remove self.old key.now }
     {
         let (name, entry) = self.by_key.remove_entry(key)?;
+        let name = CompactBytes::from_held(name);
         if let Some(deadline) = entry.deadline {
-            let key = CompactBytes::from_bytes(Bytes::from_vec(name));
-            unindex(&mut self.timed_keys, key, deadline);
+            unindex(&mut self.timed_keys, name, deadline);
         }
         Some(entry)
     }
 
-    /// Removes every key. It takes no memory.
+    /// Removes every key, and lets go what memory they had. It takes no memory.
     pub(crate) fn clear(&mut self)
         ensures { self.new ≡ map.empty }
     {
-        self.by_key.clear();
+        // Emptied in its place the hash would keep the table of all keys that it had.
+        self.by_key = KeyedMap::new(self.alloc, self.seed);
         self.timed_keys.clear();
     }
 
@@ -215,6 +219,29 @@ impl Keyspace {
     {
         self.timed_keys.iter()
     }
+}
+
+/// Sets what a new key has, apart from the index. Only a long key takes memory of its own. Where memory runs out nothing has
+/// changed.
+fn insert(
+    alloc: Global,
+    by_key: &mut KeyedMap<Entry>,
+    key: Word<'_>,
+    entry: Entry,
+) -> Result<(), AllocError>
+    ensures ok { OnOk result (by_key.new ≡ map.insert by_key.old key.entry entry) }
+    ensures err { OnErr result (by_key.new ≡ by_key.old) }
+{
+    match ShortKey::of(key.as_slice()) {
+        Some(short) => {
+            let _ = by_key.insert_short(short, entry)?;
+        }
+        None => {
+            let long = key.into_bytes(alloc)?.into_vec();
+            let _ = by_key.insert(long, entry)?;
+        }
+    }
+    Ok(())
 }
 
 /// Takes out a key that found no place in the index.

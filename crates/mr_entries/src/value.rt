@@ -1,5 +1,6 @@
 // Values, and entries.
-use mr_value::{Bytes, Hash, ListValue, SetValue};
+use mr_bytes::Bytes;
+use mr_value::{Hash, ListValue, SetValue};
 use mr_zset::ZSet;
 
 /// What a key holds.

@@ -5,9 +5,9 @@ use Rattle.std.specs.Option.{ok_or}
 use Rattle.mr_expiry.specs.Expiry.{within_limit, said, unit_said, number_said}
 use Rattle.mr_expiry.specs.Amounts.{is_amount}
 use Rattle.mr_expiry.specs.Expiry as expiries
-use Rattle.mr_words.specs.declared.fault.AskFault.{AskFault}
-use Rattle.mr_words.specs.declared.fault.AskFault.TheVariants.{ExpireTime}
-use Rattle.mr_words.specs.declared.fault.ExpiringCommand.{ExpiringCommand}
+use Rattle.mr_arguments.specs.declared.fault.AskFault.{AskFault}
+use Rattle.mr_arguments.specs.declared.fault.AskFault.TheVariants.{ExpireTime}
+use Rattle.mr_arguments.specs.declared.fault.ExpiringCommand.{ExpiringCommand}
 use Rattle.mr_expiry.specs.declared.expiry.Expiry.{Expiry}
 use Rattle.mr_expiry.specs.declared.expiry.ExpiryUnit.{ExpiryUnit}
 use Rattle.mr_expiry.specs.declared.expiry.ExpiryUnit.TheVariants as unit

@@ -1,6 +1,6 @@
 -- Which amounts of time words can say.
 use Rattle.std.specs.Prelude.{IsTrue}
-use Rattle.mr_words.specs.Askable.{IsI64}
+use Rattle.mr_arguments.specs.Askable.{IsI64}
 use Rattle.mr_expiry.specs.Amounts.{is_amount}
 use Rattle.mr_expiry.specs.Expiry.{milliseconds, number_said}
 use Rattle.mr_expiry.specs.declared.expiry.Expiry.{Expiry}

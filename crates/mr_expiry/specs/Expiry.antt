@@ -6,9 +6,9 @@ use Rattle.mr_expiry.specs.declared.expiry.Expiry.TheVariants.{Seconds, Millisec
 use Rattle.mr_expiry.specs.declared.expiry.ExpiryUnit.{ExpiryUnit}
 use Rattle.mr_expiry.specs.declared.expiry.ExpiryUnit.TheVariants as unit
 use Rattle.std.specs.Option.{ok_or}
-use Rattle.mr_words.specs.declared.fault.AskFault.{AskFault}
-use Rattle.mr_words.specs.declared.fault.AskFault.TheVariants.{ExpireTime}
-use Rattle.mr_words.specs.declared.fault.ExpiringCommand.{ExpiringCommand}
+use Rattle.mr_arguments.specs.declared.fault.AskFault.{AskFault}
+use Rattle.mr_arguments.specs.declared.fault.AskFault.TheVariants.{ExpireTime}
+use Rattle.mr_arguments.specs.declared.fault.ExpiringCommand.{ExpiringCommand}
 
 -- in milliseconds
 abbrev pub milliseconds : Expiry → ℤ

@@ -3,7 +3,7 @@ ghost use Rattle.std.specs.Prelude.{◌≡◌, ◌≤ℤ◌, ◌^◌, pos, IsTru
 ghost use Rattle.mr_expiry.specs.Amounts.{is_amount, milliseconds_of, of_seconds, seconds_of};
 ghost use Rattle.mr_expiry.specs.Expiry.{deadline_at, expiry_of, milliseconds, within_limit};
 
-use mr_words::{AskFault, ExpiringCommand};
+use mr_arguments::{AskFault, ExpiringCommand};
 use std::marker::Model;
 
 /// The most milliseconds that a request may name. The least is its negative.

@@ -6,8 +6,8 @@ use std::os::unix::fs::{FileExt, MetadataExt, OpenOptionsExt, fchown};
 use std::path::Path;
 use std::{fs, io};
 
-/// So many bytes are copied at a time.
-const PIECE: usize = 65_536;
+/// So many bytes of a file or of an input are read at once.
+pub const PIECE: usize = 65_536;
 
 /// No file has more copies of its ends beside it.
 const MOST_COPIES: u32 = 1_000_000;

@@ -8,7 +8,7 @@ mod open_fault;
 mod sync_mode;
 mod system_file;
 
-pub use beside::Aside;
+pub use beside::{Aside, PIECE};
 pub use log_file::{Failed, LogFile};
 pub use mem_file::MemFile;
 pub use open_fault::OpenFault;

@@ -11,8 +11,9 @@ use Rattle.mr_repl.proofs.Windows.{after_bytes-after_bytes}
 use Rattle.mr_replay.specs.Effects.{IsGoodEffect}
 use Rattle.mr_groups.specs.Groups.{IsGoodGroup, group_text, group_texts, singles}
 use Rattle.mr_groups.specs.Folding.{LeadsByGroups, MakesByGroups, IsStuckByGroups}
-use Rattle.mr_groups.proofs.Runs.{single_texts, single_applied, some_text, read_is_longest}
-use Rattle.mr_groups.proofs.Going.{both_applied, groups_join, leads_further}
+use Rattle.mr_groups.proofs.Notes.{nothing_open}
+use Rattle.mr_groups.proofs.Runs.{single_texts, single_applied, stuck_where_open, read_is_longest}
+use Rattle.mr_groups.proofs.Going.{both_applied, groups_join, makes_further}
 use Rattle.mr_groups.proofs.Singles.{good_singles, makes_by_singles}
 use Rattle.mr_rows.specs.State.{Core}
 use Rattle.mr_rows.specs.Growing.{rebuilt}
@@ -37,7 +38,7 @@ effects_grow c d appended es good applied stream filed = record {
 
 done_to : (c d : Core) (appended : List ℕ) (replaced : Option (List ℕ)) (file : List ℕ) → DoesToFile c d appended replaced → MakesByGroups file c.held → MakesByGroups (filed_by replaced (file ++ appended)) d.held
 done_to c d appended replaced file (DoesToFile.grows g none) m =
-    subst (λ (o : Option (List ℕ)). MakesByGroups (filed_by o (file ++ appended)) d.held) (sym none) (leads_further file appended empty c.held d.held m (grows_leads c d appended g))
+    subst (λ (o : Option (List ℕ)). MakesByGroups (filed_by o (file ++ appended)) d.held) (sym none) (makes_further file appended c.held d.held m (grows_leads c d appended g))
 done_to c d appended replaced file (DoesToFile.replaces none whole again) m =
     subst (λ (o : Option (List ℕ)). MakesByGroups (filed_by o (file ++ appended)) d.held) (sym whole) (makes_by_singles (rebuilt d.held) d.held again)
 
@@ -46,7 +47,7 @@ files_follow a b outs file f m = done_to a.core b.core outs.appended outs.replac
 
 -- nothing is read behind all of it
 nothing_begins : (m : Dataset) → IsStuckByGroups m []
-nothing_begins m es n more good applied is = absurd (omega (arith, ap length is, length-append (group_text es) more, some_text es good))
+nothing_begins m = stuck_where_open m [] (inr nothing_open)
 
 pub read_whole : FilesAreReadWhole
 read_whole file m made = read_is_longest file file [] m (sym (append-nil file)) made (nothing_begins m)

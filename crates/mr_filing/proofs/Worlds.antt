@@ -6,8 +6,8 @@ use Rattle.mr_links.specs.declared.link_id.LinkId.{LinkId}
 use Rattle.mr_follow.specs.State.{FollowState}
 use Rattle.mr_replay.specs.Effects.{Makes}
 use Rattle.mr_groups.specs.Folding.{MakesByGroups}
-use Rattle.mr_groups.proofs.Runs.{leads_nowhere}
-use Rattle.mr_groups.proofs.Going.{leads_further}
+use Rattle.mr_groups.proofs.Runs.{makes_nothing}
+use Rattle.mr_groups.proofs.Going.{makes_further}
 use Rattle.mr_groups.proofs.Singles.{makes_by_singles}
 use Rattle.mr_outs.specs.Outs.{OutsState, no_outs}
 use Rattle.mr_rows.specs.State.{NodeState, MasterAgrees}
@@ -72,7 +72,7 @@ begun_makes t (FileBegins.starts as_replica port backlog id m is makes) = subst 
 
 grown_makes : (s t : Slot) → HasGrown s t → MakesByGroups s.file s.node.core.held → MakesByGroups t.file t.node.core.held
 grown_makes s t g makes = subst (λ (z : List ℕ). MakesByGroups z t.node.core.held) (sym g.file)
-    (leads_further s.file g.bytes empty s.node.core.held t.node.core.held makes (grows_leads s.node.core t.node.core g.bytes g.grows))
+    (makes_further s.file g.bytes s.node.core.held t.node.core.held makes (grows_leads s.node.core t.node.core g.bytes g.grows))
 
 pub stay_folded : FilesStayFolded
 stay_folded w v fold goes n t at up = go (goes n t at up)
@@ -215,7 +215,7 @@ pub restarts : RestartsGoOn
 restarts w n as_replica port backlog id kept start m makes = goes_set w.slots n (begun_slot as_replica port backlog id m kept) (λ _. FileGoesOn.begins (FileBegins.starts as_replica port backlog id m refl makes))
 
 pub empty_makes : EmptyFilesMakeNothing
-empty_makes = leads_nowhere empty
+empty_makes = makes_nothing
 
 pub what_loads : WhatLoadsMakes
 what_loads found used m loads = loads.made

@@ -5,8 +5,8 @@ use Rattle.mr_entries.specs.Dataset.{Dataset}
 use Rattle.mr_data.specs.declared.given.Given.{Given}
 use Rattle.mr_effect.specs.declared.effect.Effect.{Effect}
 use Rattle.mr_resp.specs.Replies.{Tree}
-use Rattle.mr_plan.specs.Requests.{HasPlan}
-use Rattle.mr_plan.specs.Transactions.{DoesAll}
+use Rattle.mr_commands.specs.Requests.{HasPlan}
+use Rattle.mr_commands.specs.Transactions.{DoesAll}
 use Rattle.mr_course.specs.declared.upstream.UpstreamStep.{UpstreamStep}
 use Rattle.mr_ends.specs.State.{Transaction}
 use Rattle.mr_groups.specs.Folding.{MakesByGroups, LoadsGroups}

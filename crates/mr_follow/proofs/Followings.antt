@@ -5,7 +5,7 @@ use Rattle.std.proofs.lemmas.List.Elements.{All-head, All-tail}
 use Rattle.mr_data.specs.Meaning.{apply_all}
 use Rattle.mr_effect.specs.declared.effect.Effect.{Effect}
 use Rattle.mr_entries.specs.Dataset.{Dataset}
-use Rattle.mr_lines.specs.Lines.{most_counted}
+use Rattle.mr_peer_lines.specs.Lines.{most_counted}
 use Rattle.mr_follow.specs.Handshake.{IsGreeting}
 use Rattle.mr_groups.specs.Groups.{IsGoodGroup, group_text, group_texts}
 use Rattle.mr_groups.specs.Folding.{IsTorn, apply_groups}

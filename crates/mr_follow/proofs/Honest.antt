@@ -4,8 +4,8 @@ use Rattle.std.proofs.lemmas.List.{append_cancel_left, append_cancel_right}
 use Rattle.mr_inline.specs.Language.{Continues}
 use Rattle.mr_entries.specs.Dataset.{Dataset}
 use Rattle.mr_replay.specs.Effects.{Makes}
-use Rattle.mr_lines.specs.Lines.{Line, refusal, size, Says, IsLineText, IsPeerLine}
-use Rattle.mr_lines.proofs.Apart.{apart, one_line}
+use Rattle.mr_peer_lines.specs.Lines.{Line, refusal, size, Says, IsLineText, IsPeerLine}
+use Rattle.mr_peer_lines.proofs.Apart.{apart, one_line}
 use Rattle.mr_follow.specs.Handshake.{IsGreeting}
 use Rattle.mr_follow.specs.Lines.{Begins, IsNoLine, IsShortOf}
 use Rattle.mr_follow.specs.Rows.{IsOutOfPlace, Waits}

@@ -7,17 +7,17 @@ use Rattle.mr_resp.specs.Command.{IsCommandText}
 use Rattle.mr_resp.specs.Usual.{commands}
 use Rattle.mr_resp.specs.Spelling.{line_end}
 use Rattle.mr_entries.specs.Dataset.{Dataset}
-use Rattle.mr_lines.specs.Lines.{Line, status, refusal, size, IsLineText, IsPeerLine, Says, most_counted}
+use Rattle.mr_peer_lines.specs.Lines.{Line, status, refusal, size, IsLineText, IsPeerLine, Says, most_counted}
 use Rattle.mr_repl.specs.ReplId.{digits_of}
-use Rattle.mr_lines.specs.Replies.{IsReplyText, place_text}
-use Rattle.mr_lines.specs.declared.psync.PsyncReply.{PsyncReply}
-use Rattle.mr_lines.specs.declared.psync.PsyncReply.TheVariants as reply
+use Rattle.mr_peer_lines.specs.Replies.{IsReplyText, place_text}
+use Rattle.mr_peer_lines.specs.declared.psync.PsyncReply.{PsyncReply}
+use Rattle.mr_peer_lines.specs.declared.psync.PsyncReply.TheVariants as reply
 use Rattle.mr_follow.specs.Handshake.{IsGreeting, next_of, line_after}
 use Rattle.mr_follow.specs.Lines.{Begins, IsFront, HasStatus, IsShortOf, HearsAnswer, HearsLength, HearsStatus}
 use Rattle.std.specs.FinMap.{empty}
 use Rattle.std.proofs.lemmas.List.{append_cancel_left}
 use Rattle.mr_replay.specs.Effects.{Makes}
-use Rattle.mr_replay.proofs.Longest.{leads_further, leads_nowhere}
+use Rattle.mr_replay.proofs.Leading.{leads_further, leads_nowhere}
 use Rattle.mr_data.specs.Rebuilding.{rebuilding}
 use Rattle.mr_effect.specs.Spelling.{texts}
 use Rattle.mr_follow.specs.Loading.{IsDeadEnd, HasEffectWithin, GoesOn, TakesOut, HandsOver}

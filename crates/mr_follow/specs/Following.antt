@@ -2,7 +2,7 @@
 use Rattle.std.specs.Prelude.{◌≡◌, ℕ, ◌+◌, ◌≤◌, List, [], ◌∷◌, ◌++◌, length, All, Some, Ok, Err}
 use Rattle.mr_effect.specs.declared.effect.Effect.{Effect}
 use Rattle.mr_entries.specs.Dataset.{Dataset}
-use Rattle.mr_lines.specs.Lines.{most_counted, size, IsPeerLine}
+use Rattle.mr_peer_lines.specs.Lines.{most_counted, size, IsPeerLine}
 use Rattle.mr_groups.specs.Groups.{IsGoodGroup, group_texts}
 use Rattle.mr_groups.specs.Folding.{apply_groups}
 use Rattle.mr_follow.specs.State.{FollowState, heard}

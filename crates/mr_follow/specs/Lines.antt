@@ -1,9 +1,9 @@
 -- The lines that are waited for before the stream.
 use Rattle.std.specs.Prelude.{◌≡◌, ℕ, ◌<◌, ◌≤◌, ◌⊎◌, List, ◌++◌, length, take, Option, Some, None, Result, Ok, Err}
 use Rattle.mr_inline.specs.Language.{Continues, IsDoomed}
-use Rattle.mr_lines.specs.Lines.{Line, status, refusal, size, IsLineText, IsPeerLine, SaysNothing}
-use Rattle.mr_lines.specs.Replies.{IsReplyText}
-use Rattle.mr_lines.specs.declared.psync.PsyncReply.{PsyncReply}
+use Rattle.mr_peer_lines.specs.Lines.{Line, status, refusal, size, IsLineText, IsPeerLine, SaysNothing}
+use Rattle.mr_peer_lines.specs.Replies.{IsReplyText}
+use Rattle.mr_peer_lines.specs.declared.psync.PsyncReply.{PsyncReply}
 use Rattle.mr_follow.specs.declared.heard.FollowFault.{FollowFault}
 use Rattle.mr_follow.specs.declared.heard.FollowFault.TheVariants.{BadLine, Refused, Undecodable, Memory, Spent, Torn}
 use Rattle.mr_follow.specs.declared.status.Status.{Status}

@@ -10,7 +10,7 @@ use Rattle.mr_entries.specs.Dataset.{Dataset}
 use Rattle.mr_data.specs.Meaning.{apply}
 use Rattle.mr_data.specs.Rebuilding.{rebuilding}
 use Rattle.mr_inline.specs.Language.{Continues}
-use Rattle.mr_lines.specs.Lines.{IsLineText}
+use Rattle.mr_peer_lines.specs.Lines.{IsLineText}
 use Rattle.mr_replay.specs.Effects.{IsGoodEffect, Leads, Makes}
 use Rattle.mr_replay.specs.declared.replaying.Halt.{Halt}
 use Rattle.mr_replay.specs.declared.replaying.Halt.TheVariants as halt

@@ -9,10 +9,10 @@ use Rattle.std.specs.List.{AllByRecursion}
 use Rattle.mr_resp.specs.Command.{IsCommandText}
 use Rattle.mr_resp.specs.Usual.{commands}
 use Rattle.mr_entries.specs.Dataset.{Dataset}
-use Rattle.mr_lines.specs.Lines.{Line, status, refusal, size, IsLineText, most_counted}
-use Rattle.mr_lines.specs.Replies.{IsReplyText}
-use Rattle.mr_lines.specs.declared.psync.PsyncReply.{PsyncReply}
-use Rattle.mr_lines.specs.declared.psync.PsyncReply.TheVariants as reply
+use Rattle.mr_peer_lines.specs.Lines.{Line, status, refusal, size, IsLineText, most_counted}
+use Rattle.mr_peer_lines.specs.Replies.{IsReplyText}
+use Rattle.mr_peer_lines.specs.declared.psync.PsyncReply.{PsyncReply}
+use Rattle.mr_peer_lines.specs.declared.psync.PsyncReply.TheVariants as reply
 use Rattle.mr_replay.specs.Effects.{Makes}
 use Rattle.mr_effect.specs.declared.effect.Effect.{Effect}
 use Rattle.mr_data.specs.Meaning.{apply_all}

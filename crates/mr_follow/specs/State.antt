@@ -1,7 +1,7 @@
 -- What a contract sees of a follower.
 use Rattle.std.specs.Prelude.{◌≡◌, ℕ, ◌+◌, ◌≤◌, List, [], ◌++◌, length, Option, Some, None, IfSome, refl}
 use Rattle.std.specs.Coded.{Coded, code_by, coded×, coded_ℕ, coded_list, coded_option}
-use Rattle.mr_lines.specs.Lines.{most, most_counted, size, IsPeerLine}
+use Rattle.mr_peer_lines.specs.Lines.{most, most_counted, size, IsPeerLine}
 use Rattle.mr_repl.specs.ReplId.{IsId}
 use Rattle.mr_replay.specs.Effects.{Makes}
 use Rattle.mr_follow.specs.contracts.phase.Phase as waited

@@ -1,7 +1,7 @@
 //! The follower.
 ghost use Rattle.std.specs.Prelude.{◌≡◌, ◌≤◌, ◌++◌, ℕ, List, [], length, drop, OnOk, OnErr, None, Some};
 ghost use Rattle.mr_entries.specs.Dataset.{Dataset as Held};
-ghost use Rattle.mr_lines.specs.Lines.{most_counted};
+ghost use Rattle.mr_peer_lines.specs.Lines.{most_counted};
 ghost use Rattle.mr_follow.specs.Handshake.{ping_line, IsGreeting};
 ghost use Rattle.mr_follow.specs.Lines.{HasAnswer};
 ghost use Rattle.mr_follow.specs.declared.phase.Phase.TheVariants as waits;
@@ -13,7 +13,7 @@ use crate::stream::apply_front;
 use crate::taking::{Pause, Taking, go_on};
 use crate::{FollowFault, Heard, Phase};
 use mr_data::Dataset;
-use mr_lines::PsyncReply;
+use mr_peer_lines::PsyncReply;
 use mr_repl::ReplId;
 use std::alloc::{AllocError, Global};
 use std::hash::RandomState;
@@ -237,7 +237,7 @@ impl Follower {
             self.put_back(taking);
             return Err(FollowFault::Memory);
         };
-        if out.extend_from_slice(text.as_slice()).is_err() {
+        if put_behind(out, text).is_err() {
             self.put_back(taking);
             return Err(FollowFault::Memory);
         }
@@ -293,4 +293,16 @@ impl Follower {
         self.take(used, Phase::Stream);
         Ok(Heard::Applied)
     }
+}
+
+/// Puts a text behind what stands in `out`. Where nothing does, it is taken as it is, and not copied.
+fn put_behind(out: &mut Vec<u8>, text: Vec<u8>) -> Result<(), AllocError>
+    ensures ok { OnOk result (out.new.items ≡ out.old.items ++ text.items) }
+    ensures err { OnErr result (out.new.items ≡ out.old.items) }
+{
+    if out.is_empty() {
+        *out = text;
+        return Ok(());
+    }
+    out.extend_from_slice(text.as_slice())
 }

@@ -5,28 +5,28 @@ ghost use Rattle.mr_resp.specs.Usual.{commands};
 ghost use Rattle.mr_groups.specs.Reading.{ReadsGroup};
 
 use crate::taking::at_most;
+use mr_buffer::Buffer;
 use mr_groups::{Next, Reader};
 use std::alloc::{AllocError, Global};
 use std::marker::Model;
 
-/// What was fed, of which the bytes before `used` were used. Of those behind it `reader` has read a part of a group.
+/// What was fed and not used, of which `reader` has read a part of a group.
 #[derive(Drop)]
 pub(crate) struct Inbox {
-    input: Vec<u8>,
-    used: usize,
+    input: Buffer,
     reader: Reader,
 }
 
 impl Model for Inbox {
-    ghost use Rattle.std.specs.Prelude.{ℕ, List, ◌≤◌, length, drop};
+    ghost use Rattle.std.specs.Prelude.{ℕ, List};
 
     ghost Value = { List ℕ };
 
-    ghost view = { λ i. drop i.used i.input.items };
+    ghost view = { λ i. i.input };
 
     ghost use Rattle.mr_groups.specs.Readers.{HasRead};
 
-    ghost invariant = { λ i. (i.used ≤ length i.input.items) × HasRead i.reader (drop i.used i.input.items) };
+    ghost invariant = { λ i. HasRead i.reader i.input };
 }
 
 impl Inbox {
@@ -35,8 +35,7 @@ impl Inbox {
         ensures { result ≡ [] }
     {
         Inbox {
-            input: Vec::new(alloc),
-            used: 0,
+            input: Buffer::new(alloc),
             reader: Reader::new(alloc),
         }
     }
@@ -45,7 +44,7 @@ impl Inbox {
     pub(crate) fn unread(&self) -> &[u8]
         ensures { result.now ≡ self.now }
     {
-        &self.input[self.used..]
+        self.input.left()
     }
 
     /// Uses so many of the unread bytes.
@@ -53,25 +52,8 @@ impl Inbox {
         requires { count ≤ length self.old }
         ensures { self.new ≡ drop count self.old }
     {
-        self.used += count;
+        self.input.take(count);
         self.reader.reset();
-    }
-
-    /// Used bytes go where they are more than what is left, so that fewer bytes are moved than were used.
-    fn compact(&mut self)
-        ensures { self.new ≡ self.old }
-    {
-        let left = self.input.len() - self.used;
-        if left == 0 {
-            self.input.clear();
-            self.used = 0;
-            return;
-        }
-        if left < self.used {
-            self.input.copy_within(self.used.., 0);
-            self.input.truncate(left);
-            self.used = 0;
-        }
     }
 
     /// Puts bytes behind the unread ones.
@@ -79,8 +61,7 @@ impl Inbox {
         ensures ok { OnOk result (self.new ≡ self.old ++ bytes.now) }
         ensures err { OnErr result (self.new ≡ self.old) }
     {
-        self.compact();
-        self.input.extend_from_slice(bytes)?;
+        self.input.push(bytes)?;
         Ok(())
     }
 
@@ -90,7 +71,6 @@ impl Inbox {
         ensures refused { OnErr result (BeginsWithCommand commands (take most self.old)) }
         ensures kept { self.new ≡ self.old }
     {
-        self.reader
-            .next(alloc, at_most(&self.input[self.used..], most))
+        self.reader.next(alloc, at_most(self.input.left(), most))
     }
 }

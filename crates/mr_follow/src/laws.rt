@@ -7,9 +7,9 @@ pub fn fed_bytes_are_unread()
     ensures { FedIsUnread }
 {}
 
-/// Fed a beginning of the texts of effects that can be applied one after another, in any pieces and with any steps between, a
-/// follower in its stream has applied the first of them, holds what they make of its dataset at the offset behind their texts,
-/// and keeps the rest of what it was fed.
+/// Fed a beginning of the texts of groups that can be applied one after another, in any pieces and with any steps between, a
+/// follower in its stream has applied the first of them, each as a whole, holds what they make of its dataset at the offset
+/// behind their texts, and keeps the rest of what it was fed.
 pub fn follows_the_stream()
     ensures { FollowsTheStream }
 {}

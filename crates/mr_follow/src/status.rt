@@ -2,7 +2,7 @@
 ghost use Rattle.mr_follow.specs.Lines.{HearsStatus, HearsAnswer, HearsLength};
 
 use crate::FollowFault;
-use mr_lines::{LineScan, PeerLine, PsyncReply, next_line, read_reply};
+use mr_peer_lines::{PeerLine, PeerLineScan, PsyncReply, next_line, read_reply};
 
 /// What a `+` line says, and its length with its end.
 #[derive(Clone, Copy)]
@@ -30,13 +30,13 @@ pub(crate) fn status_at(input: &[u8]) -> Result<Option<Status<'_>>, FollowFault>
     ensures { HearsStatus input.now result }
 {
     match next_line(input) {
-        LineScan::Whole { line, used } => match line {
+        PeerLineScan::Whole { line, used } => match line {
             PeerLine::Status(text) => Ok(Some(Status { text, used })),
             PeerLine::Refusal(_) => Err(FollowFault::Refused),
             PeerLine::Length(_) => Err(FollowFault::BadLine),
         },
-        LineScan::More => Ok(None),
-        LineScan::Bad => Err(FollowFault::BadLine),
+        PeerLineScan::More => Ok(None),
+        PeerLineScan::Bad => Err(FollowFault::BadLine),
     }
 }
 
@@ -61,12 +61,12 @@ pub(crate) fn length_at(input: &[u8]) -> Result<Option<Announced>, FollowFault>
     ensures { HearsLength input.now result }
 {
     match next_line(input) {
-        LineScan::Whole { line, used } => match line {
+        PeerLineScan::Whole { line, used } => match line {
             PeerLine::Length(length) => Ok(Some(Announced { length, used })),
             PeerLine::Refusal(_) => Err(FollowFault::Refused),
             PeerLine::Status(_) => Err(FollowFault::BadLine),
         },
-        LineScan::More => Ok(None),
-        LineScan::Bad => Err(FollowFault::BadLine),
+        PeerLineScan::More => Ok(None),
+        PeerLineScan::Bad => Err(FollowFault::BadLine),
     }
 }

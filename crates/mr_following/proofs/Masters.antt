@@ -152,8 +152,8 @@ module _ (a : NodeState) (l : LinkId) (u : List ℕ) (w : IsWindow a.core.lineag
 
   spends : (b : NodeState) → Spends a l b → StaysWith l u a b (Err fault.Stopped) ⊎ Parts a reader u b
   spends b h = let r = row_of (Err want.Stopped) h.course b.core.held h.told h.listens in elim r.cause [
-    | inl s ↦ inl (whole s.cause, h.down)
-    | inr t ↦ inr (inr (record { down = h.down; next = h.listens.next; made = b.core.held; told = h.told; torn = t }))
+    | inl s ↦ inl (whole s.cause, ap (λ (z : NodeState). z.core.up) h.node)
+    | inr t ↦ inr (inr (record { down = ap (λ (z : NodeState). z.core.up) h.node; next = h.listens.next; made = b.core.held; told = h.told; torn = t }))
   ]
     where
       whole : follow.SpendsHeld reader u a.core.held a.core.lineage.stream.offset h.listens.next b.core.held ⊎ follow.SpendsMade reader u a.core.held h.listens.next b.core.held → HasWhole u

@@ -9,8 +9,8 @@ use Rattle.mr_groups.specs.Groups.{grown_text}
 use Rattle.mr_effect.specs.declared.effect.Effect.{Effect}
 use Rattle.mr_data.specs.Meaning.{apply_all}
 use Rattle.mr_data.specs.declared.given.Given.{Given}
-use Rattle.mr_plan.proofs.Replicas.{none_on_replica}
-use Rattle.mr_plan.proofs.Doing.{do_nothing, have_none}
+use Rattle.mr_commands.proofs.Replicas.{none_on_replica}
+use Rattle.mr_commands.proofs.Doing.{do_nothing, have_none}
 use Rattle.mr_repl.specs.Backlog.{IsWindow}
 use Rattle.mr_repl.specs.Lineage.{grown}
 use Rattle.mr_follow.specs.State.{FollowState}

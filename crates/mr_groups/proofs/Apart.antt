@@ -5,6 +5,7 @@ use Rattle.std.specs.List.{flat_map}
 use Rattle.std.specs.Str.{bytes_eq}
 use Rattle.std.proofs.lemmas.List.{append_cancel_left}
 use Rattle.std.proofs.lemmas.List.Elements.{All-nil, All-cons, All-head, All-tail}
+use Rattle.mr_inline.specs.Limits.{word_limit}
 use Rattle.mr_map.specs.Bytes.{Bytes}
 use Rattle.mr_resp.specs.Command.{IsCommand, IsCommandText}
 use Rattle.mr_resp.specs.Spelling.{number_line, bulk, array}
@@ -19,7 +20,7 @@ use Rattle.mr_effect.specs.declared.name.EffectName.TheVariants as name
 use Rattle.mr_effect.specs.declared.effect.Effect.{Effect}
 use Rattle.mr_effect.proofs.Texts.{command_text}
 use Rattle.mr_replay.specs.Effects.{IsGoodEffect}
-use Rattle.mr_replay.proofs.Longest.{one_effect}
+use Rattle.mr_replay.proofs.Leading.{one_effect}
 use Rattle.mr_groups.specs.Groups.{IsGroup, IsGoodGroup, multi, exec, group_text}
 use Rattle.mr_groups.specs.Parts.{multi_words, exec_words}
 
@@ -33,7 +34,7 @@ second false b h = cc
 
 -- ---- the texts of a frame are command texts
 
-one_word : (w : Bytes) → length w ≤ 16777216 → IsCommand commands (array (w ∷ [])) (w ∷ [])
+one_word : (w : Bytes) → length w ≤ word_limit → IsCommand commands (array (w ∷ [])) (w ∷ [])
 one_word w short = record {
   spelled = refl;
   some = lit< tt;

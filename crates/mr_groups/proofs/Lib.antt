@@ -3,11 +3,14 @@ pub mod Apart
 pub mod Openings
 pub mod Sizes
 pub mod Readings
+pub mod Notes
+pub mod Marks
 pub mod Runs
 pub mod Cuts
 pub mod Doing
 pub mod Singles
 pub mod Going
+pub mod Noted
 pub mod Lone
 pub mod Resuming
 pub mod Lengths

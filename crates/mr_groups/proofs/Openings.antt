@@ -12,7 +12,7 @@ use Rattle.mr_effect.specs.Spelling.{words, text, texts}
 use Rattle.mr_effect.specs.declared.effect.Effect.{Effect}
 use Rattle.mr_effect.specs.declared.effect.Effect.TheVariants as effect
 use Rattle.mr_replay.specs.Effects.{IsGoodEffect}
-use Rattle.mr_replay.proofs.Longest.{one_effect}
+use Rattle.mr_replay.proofs.Leading.{one_effect}
 use Rattle.mr_groups.specs.Groups.{can_join, is_group, IsGoodGroup, multi, exec, group_text, parts}
 use Rattle.mr_groups.specs.Parts.{HasOther, multi_words, exec_words}
 use Rattle.mr_groups.specs.Reading.{BeginsWithGroup, IsCut, BeginGroup, IsOpen, IsBad}

@@ -1,17 +1,20 @@
 -- What was read of a group stays read as more bytes come.
-use Rattle.std.proofs.Common.{ℕ, ◌<◌, ◌≤◌, List, length, take, refl, sym, ap, subst, ◌∙◌, arith, length-append}
-use Rattle.std.proofs.lemmas.List.{take-append-le, take-take, take_at, length-take-le}
+use Rattle.std.proofs.Common.{◌≡◌, ℕ, ◌<◌, ◌≤◌, List, ◌++◌, ◌==◌, true, false, length, take, drop, refl, sym, ap, subst, ◌∙◌, append_assoc, arith, eqb-true, length-append}
+use Rattle.std.proofs.lemmas.List.{take-append-drop, take-append-le, take-take, take_at, length-take-le}
 use Rattle.mr_resp.specs.Command.{BeginsWithCommand}
 use Rattle.mr_resp.specs.Usual.{commands}
 use Rattle.mr_effect.specs.Spelling.{texts}
 use Rattle.mr_effect.specs.declared.effect.Effect.{Effect}
 use Rattle.mr_groups.specs.Groups.{multi}
+use Rattle.mr_groups.specs.Notes.{HasNoNote}
 use Rattle.mr_groups.specs.Reading.{IsFirstGroup, ReadsGroup}
 use Rattle.mr_groups.specs.Readers.{AreRead, IsFresh, HasRead, LeavesOf, GivesAll, MayRead, ReadsOn, ReadsAny}
 use Rattle.mr_groups.specs.Readers.HasRead.{nothing, begun}
 use Rattle.mr_groups.specs.declared.reader.Reader.{Reader}
 use Rattle.mr_groups.specs.declared.reading.Next.{Next}
 use Rattle.mr_groups.specs.declared.reading.Next.TheVariants.{Whole, More, Bad}
+use Rattle.mr_groups.proofs.Lengths.{multi_length}
+use Rattle.mr_groups.proofs.Marks.{framed_no_note}
 use Rattle.mr_groups.proofs.Readings.{begins_with_multi}
 
 pub reads_any : ReadsAny
@@ -53,6 +56,21 @@ pub given_fresh : (es : List Effect) (n : ℕ) (r : Next) (s : Reader) → Gives
 given_fresh es n (Whole effects used) s h fresh = fresh
 given_fresh es n More s h fresh = absurd h
 given_fresh es n Bad s h fresh = absurd h
+
+-- what has read nothing
+pub is_fresh_at : (r : Reader) (bytes : List ℕ) → HasRead r bytes → (r.used == 0) ≡ true → IsFresh r
+is_fresh_at r bytes (nothing fresh) none = fresh
+is_fresh_at r bytes (begun read) none =
+    let zero : r.used ≡ 0 = eqb-true r.used 0 none in
+    absurd (omega (arith, zero, length-take-le r.used bytes read.within, ap length read.is_text, length-append multi (texts r.effects), multi_length))
+
+-- what it has read of a frame begins with no note
+pub begun_no_note : (r : Reader) (bytes : List ℕ) → HasRead r bytes → (r.used == 0) ≡ false → HasNoNote bytes
+begun_no_note r bytes (nothing fresh) some more note = let wrong : true ≡ false = sym (ap (λ k. k == 0) fresh.0) ∙ some in cc
+begun_no_note r bytes (begun read) some more note =
+    framed_no_note (texts r.effects ++ (drop r.used bytes ++ more)) (bytes ++ more)
+    (ap (λ (t : List ℕ). t ++ more) (sym (take-append-drop r.used bytes) ∙ ap (λ (t : List ℕ). t ++ drop r.used bytes) read.is_text)
+    ∙ (append_assoc (multi ++ texts r.effects) (drop r.used bytes) more ∙ append_assoc multi (texts r.effects) (drop r.used bytes ++ more))) note
 
 -- a frame's beginning is a command text
 pub frame_begins : (bytes : List ℕ) (used : ℕ) (es : List Effect) → AreRead bytes used es → BeginsWithCommand commands bytes

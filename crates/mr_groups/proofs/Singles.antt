@@ -11,7 +11,7 @@ use Rattle.mr_data.specs.Meaning.{apply, apply_all}
 use Rattle.mr_replay.specs.Effects.{IsGoodEffect, Leads, Makes}
 use Rattle.mr_groups.specs.Groups.{IsGoodGroup, singles}
 use Rattle.mr_groups.specs.Folding.{LeadsByGroups, MakesByGroups}
-use Rattle.mr_groups.proofs.Runs.{first_done, single_texts, single_applied}
+use Rattle.mr_groups.proofs.Runs.{first_done, single_texts, single_applied, by_items}
 
 pub one_good : (e : Effect) → IsGoodEffect e → IsGoodGroup (e ∷ [])
 one_good e good = record { group = refl; good = All-cons IsGoodEffect e [] good (All-nil IsGoodEffect) }
@@ -30,7 +30,7 @@ leads_by_singles bytes old new led = record {
 }
 
 pub makes_by_singles : (bytes : List ℕ) (m : Dataset) → Makes bytes m → MakesByGroups bytes m
-makes_by_singles bytes m made = leads_by_singles bytes empty m made
+makes_by_singles bytes m made = by_items bytes empty m (leads_by_singles bytes empty m made)
 
 -- ---- effects that can be applied
 
@@ -53,3 +53,6 @@ good_applied (e ∷ es) m n h short =
 -- their texts lead on by groups, where none has too many words
 pub leads_applied : (es : List Effect) (m n : Dataset) → apply_all es m ≡ Some n → All IsShort es → LeadsByGroups (texts es) m n
 leads_applied es m n applied short = leads_by_singles (texts es) m n (record { effects = es; good = good_applied es m n applied short; are_texts = refl; applied = applied })
+
+pub makes_applied : (es : List Effect) (m : Dataset) → apply_all es empty ≡ Some m → All IsShort es → MakesByGroups (texts es) m
+makes_applied es m applied short = by_items (texts es) empty m (leads_applied es empty m applied short)

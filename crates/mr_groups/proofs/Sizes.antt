@@ -3,8 +3,9 @@ use Rattle.std.proofs.Common.{ℤ, ◌≤◌, List, [], ◌∷◌, length, Bool,
 use Rattle.std.specs.List.{flat_map, list_all}
 use Rattle.std.proofs.lemmas.Bool.{le-leb}
 use Rattle.std.proofs.lemmas.List.Elements.{All-head, All-tail}
+use Rattle.mr_inline.specs.Limits.{word_limit}
 use Rattle.mr_map.specs.Bytes.{Bytes}
-use Rattle.mr_value.specs.Words.{fits}
+use Rattle.mr_bytes.specs.Words.{fits}
 use Rattle.mr_resp.specs.Usual.{commands, commands-word}
 use Rattle.mr_effect.specs.Effects.{pair_fits, member_fits, words_fit}
 use Rattle.mr_effect.specs.Spelling.{words, arguments, pair_words, score_words}
@@ -19,8 +20,8 @@ AllFit (w ∷ ws) = IsTrue (fits w) × AllFit ws
 all_fit : (ws : List Bytes) → All (λ w. length w ≤ commands.word) ws → AllFit ws
 all_fit [] h = tt
 all_fit (w ∷ ws) h =
-    let short : length w ≤ 16777216 = omega (arith, commands-word, All-head (λ v. length v ≤ commands.word) w ws h) in
-    (le-leb (length w) 16777216 short, all_fit ws (All-tail (λ v. length v ≤ commands.word) w ws h))
+    let short : length w ≤ word_limit = omega (arith, commands-word, All-head (λ v. length v ≤ commands.word) w ws h) in
+    (le-leb (length w) word_limit short, all_fit ws (All-tail (λ v. length v ≤ commands.word) w ws h))
 
 both : (a b : Bool) → IsTrue a → IsTrue b → IsTrue (a && b)
 both true b h k = k

@@ -10,6 +10,8 @@ use Rattle.mr_entries.specs.declared.fault.ApplyFault.{ApplyFault}
 use Rattle.mr_entries.specs.declared.fault.ApplyFault.TheVariants as undone
 use Rattle.mr_data.specs.Meaning.{apply, apply_all, StopsAtOne}
 use Rattle.mr_groups.specs.Groups.{IsGoodGroup, group_text, group_texts}
+use Rattle.mr_groups.specs.Notes.{BeginsWithNote}
+use Rattle.mr_groups.specs.Items.{Item, IsGoodItem, item_texts, groups_of}
 use Rattle.mr_groups.specs.declared.applying.GroupFault.{GroupFault}
 use Rattle.mr_groups.specs.declared.applying.GroupFault.TheVariants as fault
 
@@ -49,9 +51,16 @@ pub record LeadsByGroups (bytes : List ℕ) (old new : Dataset) : Type 0 where
   pub are_texts : bytes ≡ group_texts groups
   pub applied : apply_groups groups old ≡ Some new
 
--- .. which make this dataset of the empty one
+-- .. or, as in a file, these and notes, in any order: a note does nothing
+pub record LeadsByItems (bytes : List ℕ) (old new : Dataset) : Type 0 where
+  pub items : List Item
+  pub good : All IsGoodItem items
+  pub are_texts : bytes ≡ item_texts items
+  pub applied : apply_groups (groups_of items) old ≡ Some new
+
+-- a file's bytes make this dataset of the empty one, group by group
 abbrev pub MakesByGroups : List ℕ → Dataset → Type 0
-MakesByGroups bytes m = LeadsByGroups bytes empty m
+MakesByGroups bytes m = LeadsByItems bytes empty m
 
 -- The longest beginning of a file that makes a dataset by groups has this length, and makes this one.
 pub record LoadsGroups (file : List ℕ) (used : ℕ) (m : Dataset) : Type 0 where
@@ -59,6 +68,7 @@ pub record LoadsGroups (file : List ℕ) (used : ℕ) (m : Dataset) : Type 0 whe
   pub made : MakesByGroups (take used file) m
   pub longest : (other more : List ℕ) (n : Dataset) → file ≡ other ++ more → MakesByGroups other n → length other ≤ used
 
--- no text of a group that can be applied begins the bytes
-abbrev pub IsStuckByGroups : Dataset → List ℕ → Type 0
-IsStuckByGroups m bytes = (es : List Effect) (n : Dataset) (more : List ℕ) → IsGoodGroup es → apply_all es m ≡ Some n → bytes ≡ group_text es ++ more → ⊥
+-- no text of a note, nor of a group that can be applied, begins the bytes
+pub record IsStuckByGroups (m : Dataset) (bytes : List ℕ) : Type 0 where
+  pub no_note : BeginsWithNote bytes → ⊥
+  pub no_group : (es : List Effect) (n : Dataset) (more : List ℕ) → IsGoodGroup es → apply_all es m ≡ Some n → bytes ≡ group_text es ++ more → ⊥

@@ -2,6 +2,8 @@ pub mod Groups
 pub mod Parts
 pub mod Reading
 pub mod Readers
+pub mod Notes
+pub mod Items
 pub mod Folding
 pub mod Replaying
 pub mod Fronts

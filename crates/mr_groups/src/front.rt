@@ -1,10 +1,12 @@
-// Groups at the front of bytes, done to a dataset.
+// Groups at the front of bytes, done to a dataset, and the notes between them.
 ghost use Rattle.std.specs.Prelude.{drop};
 ghost use Rattle.mr_groups.specs.Groups.{IsGroup};
-ghost use Rattle.mr_groups.specs.Readers.{HasRead};
+ghost use Rattle.mr_groups.specs.Notes.{HasNoNote};
+ghost use Rattle.mr_groups.specs.Readers.{HasRead, IsFresh};
 ghost use Rattle.mr_groups.specs.Fronts.{AppliesFront, TakesTurn, TriesWhole};
 
 use crate::applying::{GroupFault, apply_group_owned};
+use crate::note::{Note, note_at};
 use crate::reader::Reader;
 use crate::reading::Next;
 use mr_data::{Dataset, Effect};
@@ -14,9 +16,9 @@ use std::alloc::{AllocError, Global};
 /// What is left behind the groups that were done.
 #[derive(Clone, Copy, Debug, PartialEq, Eq)]
 pub enum Rest {
-    /// More bytes may make a group's text of it.
+    /// More bytes may make a group's text, or a note's, of it.
     Open,
-    /// However it goes on, no group that can be done begins it.
+    /// However it goes on, no note begins it, nor a group that can be done: its first effect is undefined, or none is there.
     Bad,
     /// The group that begins it was done in part, for a later effect of it is undefined: the dataset is of no use.
     Torn,
@@ -25,8 +27,8 @@ pub enum Rest {
 /// Why a turn ended.
 #[derive(Clone, Copy)]
 pub(crate) enum End {
-    /// A group was done, and others may follow.
-    Group,
+    /// A group was done, or a note passed, and others may follow.
+    Item,
     /// No more can be done.
     Rest(Rest),
     /// Memory was lacking: nothing is known of the dataset.
@@ -55,7 +57,7 @@ fn try_whole(dataset: &mut Dataset, effects: Vec<Effect<'static>>, used: usize) 
     match apply_group_owned(dataset, effects) {
         Ok(()) => Turn {
             used,
-            end: End::Group,
+            end: End::Item,
         },
         Err(GroupFault::Refused) => Turn {
             used: 0,
@@ -72,9 +74,10 @@ fn try_whole(dataset: &mut Dataset, effects: Vec<Effect<'static>>, used: usize) 
     }
 }
 
-/// Does the group whose text begins the bytes, where one does. What was read of one that isn't whole is kept.
+/// Does the group whose text begins the bytes, where one does, and no note. What was read of one that isn't whole is kept.
 fn try_group(alloc: Global, dataset: &mut Dataset, reader: &mut Reader, bytes: &[u8]) -> Turn
-    requires { HasRead reader.old bytes.now }
+    requires read { HasRead reader.old bytes.now }
+    requires no_note { HasNoNote bytes.now }
     ensures done { TakesTurn bytes.now result.used dataset.old dataset.new result.end }
     ensures kept { HasRead reader.new (drop result.used bytes.now) }
 {
@@ -95,8 +98,27 @@ fn try_group(alloc: Global, dataset: &mut Dataset, reader: &mut Reader, bytes: &
     }
 }
 
+/// Passes the note that begins the bytes, or else does the group.
+fn try_item(alloc: Global, dataset: &mut Dataset, reader: &mut Reader, bytes: &[u8]) -> Turn
+    requires { IsFresh reader.old }
+    ensures done { TakesTurn bytes.now result.used dataset.old dataset.new result.end }
+    ensures kept { HasRead reader.new (drop result.used bytes.now) }
+{
+    match note_at(bytes) {
+        Note::Whole(used) => Turn {
+            used,
+            end: End::Item,
+        },
+        Note::Open => Turn {
+            used: 0,
+            end: End::Rest(Rest::Open),
+        },
+        Note::No => try_group(alloc, dataset, reader, bytes),
+    }
+}
+
 /// Does the effects whose texts begin the bytes, each as a group of its own, for which none of their words is copied; and where
-/// they end, the group there.
+/// they end, passes the note there or does the group. A note stands between groups only.
 fn take_turn(alloc: Global, dataset: &mut Dataset, reader: &mut Reader, bytes: &[u8]) -> Turn
     requires { HasRead reader.old bytes.now }
     ensures done { TakesTurn bytes.now result.used dataset.old dataset.new result.end }
@@ -112,7 +134,7 @@ fn take_turn(alloc: Global, dataset: &mut Dataset, reader: &mut Reader, bytes: &
             end: End::Rest(Rest::Open),
         },
         Halt::Bad => {
-            let turn = try_group(alloc, dataset, reader, &bytes[run.used..]);
+            let turn = try_item(alloc, dataset, reader, &bytes[run.used..]);
             Turn {
                 used: run.used + turn.used,
                 end: turn.end,
@@ -125,8 +147,8 @@ fn take_turn(alloc: Global, dataset: &mut Dataset, reader: &mut Reader, bytes: &
     }
 }
 
-/// Does the groups whose texts begin the bytes, as long as they can be done. The reader has read a part of the first, or nothing,
-/// and then a part of what is left.
+/// Does the groups whose texts begin the bytes, as long as they can be done, and passes the notes between them. The reader has read
+/// a part of the first, or nothing, and then a part of what is left.
 pub(crate) fn apply_front(
     alloc: Global,
     dataset: &mut Dataset,
@@ -142,7 +164,7 @@ pub(crate) fn apply_front(
         let turn = take_turn(alloc, dataset, reader, &bytes[used..]);
         used += turn.used;
         match turn.end {
-            End::Group => {}
+            End::Item => {}
             End::Rest(rest) => {
                 return Applied {
                     used,

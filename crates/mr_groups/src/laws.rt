@@ -1,10 +1,13 @@
 //! Laws of the definitions that the contracts cite. The calls do nothing: each promise is a law.
-ghost use Rattle.std.specs.Prelude.{ℕ, ◌≡◌, ◌<◌, ◌++◌, ◌∷◌, [], All, List, length};
+ghost use Rattle.std.specs.Prelude.{ℕ, ◌≡◌, ◌<◌, ◌+◌, ◌++◌, ◌∷◌, ◌↔◌, [], All, IsTrue, List, length};
+ghost use Rattle.std.specs.List.{list_all};
 ghost use Rattle.mr_effect.specs.Spelling.{texts};
 ghost use Rattle.mr_effect.specs.declared.effect.Effect.{Effect};
 ghost use Rattle.mr_entries.specs.Dataset.{Dataset};
 ghost use Rattle.mr_data.specs.Meaning.{apply_all};
-ghost use Rattle.mr_groups.specs.Groups.{IsGoodGroup, group_text, group_texts, singles};
+ghost use Rattle.mr_replay.specs.Effects.{IsGoodEffect};
+ghost use Rattle.mr_groups.specs.Groups.{IsGoodGroup, can_join, group_text, group_texts, multi, singles};
+ghost use Rattle.mr_groups.specs.Notes.{IsNoteLine, mark, note_text};
 ghost use Rattle.mr_groups.specs.Reading.{BeginsWithGroup, IsBad, IsFirstGroup, IsOpen};
 ghost use Rattle.mr_groups.specs.Readers.{ReadsAny, ReadsOn};
 ghost use Rattle.mr_groups.specs.Folding.{LoadsGroups, MakesByGroups, apply_groups};
@@ -29,6 +32,18 @@ pub fn torn_groups_do_nothing()
     ensures not_bad { (es : List Effect) (front more : List ℕ) → IsGoodGroup es → front ++ more ≡ group_text es → IsBad front → ⊥ }
     ensures loaded { (bytes : List ℕ) (m : Dataset) (es : List Effect) (front more : List ℕ) → MakesByGroups bytes m → IsGoodGroup es
         → front ++ more ≡ group_text es → 0 < length more → LoadsGroups (bytes ++ front) (length bytes) m }
+{}
+
+/// A note between the groups of a file changes neither the dataset nor another group: it counts in how much is read, and in nothing
+/// else. Within a frame it makes the group's text a bad one. Its text ends with itself, and is no group's.
+pub fn notes_do_nothing()
+    ensures passed { (front behind line : List ℕ) (m n : Dataset) → MakesByGroups front m → IsNoteLine line
+        → MakesByGroups (front ++ (note_text line ++ behind)) n ↔ MakesByGroups (front ++ behind) n }
+    ensures counted { (front behind line : List ℕ) (m n : Dataset) (used : ℕ) → MakesByGroups front m → IsNoteLine line
+        → LoadsGroups (front ++ behind) used n → LoadsGroups (front ++ (note_text line ++ behind)) (length (note_text line) + used) n }
+    ensures inside { (es : List Effect) (more : List ℕ) → All IsGoodEffect es → IsTrue (list_all can_join es) → IsBad (multi ++ (texts es ++ mark ∷ more)) }
+    ensures one { (line other x y : List ℕ) → IsNoteLine line → IsNoteLine other → note_text line ++ x ≡ note_text other ++ y → (line ≡ other) × (x ≡ y) }
+    ensures apart { (line : List ℕ) (es : List Effect) (x y : List ℕ) → IsGoodGroup es → note_text line ++ x ≡ group_text es ++ y → ⊥ }
 {}
 
 /// What stands at the front of bytes is one thing: one group, a beginning of one, or nothing that a group's text can come of,

@@ -1,4 +1,4 @@
-//! Groups of effects: all of one or nothing, in a stream, in a file and on a dataset.
+//! Groups of effects: all of one or nothing, in a stream, in a file and on a dataset. In a file notes may stand between them.
 #![tactic(auto)]
 
 mod applying;
@@ -6,6 +6,7 @@ mod encoding;
 mod front;
 mod laws;
 mod loading;
+mod note;
 mod owning;
 mod part;
 mod reader;
@@ -16,11 +17,10 @@ pub use applying::{GroupFault, apply_group, apply_group_owned};
 pub use encoding::{FRAME, encode_group, exec_text, multi_text};
 pub use front::Rest;
 pub use laws::{
-    answer_is_one, groups_are_told_apart, reading_goes_on, single_effects_are_groups,
-    torn_groups_do_nothing,
+    answer_is_one, groups_are_told_apart, notes_do_nothing, reading_goes_on,
+    single_effects_are_groups, torn_groups_do_nothing,
 };
-pub use loading::load_groups;
-pub use mr_replay::Loaded;
+pub use loading::{Loaded, load_groups};
 pub use part::begins_frame;
 pub use reader::Reader;
 pub use reading::{Next, next_group};

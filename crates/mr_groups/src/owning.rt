@@ -1,8 +1,8 @@
 // Effects that own their words.
 ghost use Rattle.std.specs.Prelude.{◌≡◌, IfOk};
 
-use mr_effect::{Effect, Pairs, Scores, Words};
-use mr_value::Word;
+use mr_bytes::Word;
+use mr_effect::{Effect, EffectPairs, EffectWords, Scores};
 use std::alloc::{AllocError, Global};
 
 /// A word that owns a copy of another's bytes.
@@ -27,10 +27,10 @@ fn two_owned(
 }
 
 /// Words that own copies, in their order.
-fn owned_words(alloc: Global, words: &Words<'_>) -> Result<Words<'static>, AllocError>
+fn owned_words(alloc: Global, words: &EffectWords<'_>) -> Result<EffectWords<'static>, AllocError>
     ensures { IfOk result (λ owned. owned ≡ words.now) }
 {
-    let mut owned = Words::new(alloc);
+    let mut owned = EffectWords::new(alloc);
     for word in words.as_slice() {
         owned.push(owned_word(alloc, word)?)?;
     }
@@ -38,10 +38,10 @@ fn owned_words(alloc: Global, words: &Words<'_>) -> Result<Words<'static>, Alloc
 }
 
 /// Pairs of words that own copies, in their order.
-fn owned_pairs(alloc: Global, pairs: &Pairs<'_>) -> Result<Pairs<'static>, AllocError>
+fn owned_pairs(alloc: Global, pairs: &EffectPairs<'_>) -> Result<EffectPairs<'static>, AllocError>
     ensures { IfOk result (λ owned. owned ≡ pairs.now) }
 {
-    let mut owned = Pairs::new(alloc);
+    let mut owned = EffectPairs::new(alloc);
     for pair in pairs.as_slice() {
         owned.push(owned_word(alloc, &pair.0)?, owned_word(alloc, &pair.1)?)?;
     }

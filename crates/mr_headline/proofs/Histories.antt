@@ -1,15 +1,15 @@
 -- What a history gives, as commands; and that what a book has more stands behind.
 use Rattle.std.proofs.Common.{◌≡◌, ◌+◌, ℕ, List, ◌++◌, Option, None, Some, length, take, refl, sym, ap, subst, ◌∙◌, arith, length-append, All}
 use Rattle.std.proofs.lemmas.Grind.{flat_map-append}
-use Rattle.std.proofs.lemmas.List.Elements.{All-append}
 use Rattle.std.proofs.Math.Seq.{take-append_seam}
 use Rattle.mr_effect.specs.declared.effect.Effect.{Effect}
 use Rattle.mr_entries.specs.Dataset.{Dataset}
 use Rattle.mr_groups.specs.Groups.{IsGoodGroup, group_text}
-use Rattle.mr_groups.specs.Folding.{MakesByGroups}
+use Rattle.mr_groups.specs.Folding.{LeadsByGroups, MakesByGroups}
+use Rattle.mr_groups.proofs.Going.{led_once}
 use Rattle.mr_history.specs.History.{Book, History, IsAt, Grows, texts, fold}
 use Rattle.mr_history.proofs.Fronts.{some_is}
-use Rattle.mr_history.proofs.Histories.{all_front, fold_append}
+use Rattle.mr_history.proofs.Histories.{all_front}
 use Rattle.mr_language.specs.Minired.{minired}
 use Rattle.mr_language.proofs.Texts.{made_by_groups_is_one}
 use Rattle.mr_seen.specs.State.{Entry, WorldState}
@@ -32,14 +32,9 @@ has_entry entries book id h is e = go (entry_of entries id) refl
     go None q = absurd (subst (λ z. IsKeptAs None z) e (subst (λ z. IsKeptAs z (book id)) q (is.each id)))
     go (Some x) q = record { entry = x; found = q; kept = subst (λ z. IsKeptAs (Some x) z) e (subst (λ z. IsKeptAs z (book id)) q (is.each id)) }
 
--- more good groups behind those that made a dataset
-more_made : (bytes : List ℕ) (gs : List (List Effect)) (m n : Dataset) → MakesByGroups bytes m → All IsGoodGroup gs → fold minired gs m ≡ Some n → MakesByGroups (bytes ++ texts minired gs) n
-more_made bytes gs m n makes good folds = record {
-  groups = makes.groups ++ gs;
-  good = All-append IsGoodGroup makes.groups gs makes.good good;
-  are_texts = ap (λ z. z ++ texts minired gs) makes.are_texts ∙ sym (flat_map-append group_text makes.groups gs);
-  applied = sym (fold_is (makes.groups ++ gs) _) ∙ (fold_append minired makes.groups gs _ m (fold_is makes.groups _ ∙ makes.applied) ∙ folds);
-}
+-- the texts of good groups
+led_by : (gs : List (List Effect)) (m n : Dataset) → All IsGoodGroup gs → fold minired gs m ≡ Some n → LeadsByGroups (texts minired gs) m n
+led_by gs m n good folds = record { groups = gs; good = good; are_texts = refl; applied = sym (fold_is gs m) ∙ folds }
 
 pub at_gives : (w : WorldState) (book : Book minired) → Holds w book → (id : List ℕ) (o : ℕ) (m : Dataset) → IsAt minired book id o m → Gives w id o m
 at_gives w book holds id o m at =
@@ -53,7 +48,9 @@ at_gives w book holds id o m at =
       found = has.found;
       within = let long : length has.entry.texts ≡ length (texts minired at.earlier) + length (texts minired at.later) = ap length is ∙ length-append (texts minired at.earlier) (texts minired at.later) in
           omega (arith, long, at.front.place);
-      made = subst (λ z. MakesByGroups (has.entry.start ++ z) m) (sym cut) (more_made has.entry.start at.earlier at.start m has.kept.start good at.folds);
+      begun = at.start;
+      start = has.kept.start;
+      led = subst (λ z. LeadsByGroups z at.start m) (sym cut) (led_by at.earlier at.start m good at.folds);
     }
 
 is_kept : (o : Option Entry) (p : Option (History minired)) (x : Entry) → IsKeptAs o p → o ≡ Some x → (h : History minired) × (p ≡ Some h) × IsKept x h
@@ -80,4 +77,6 @@ grows_on w v b c is is' g id old e =
 pub gives_one : HistoriesGiveOne
 gives_one w id o m n a b =
     let same : a.entry ≡ b.entry = some_is a.entry b.entry (sym a.found ∙ b.found) in
-    made_by_groups_is_one (b.entry.start ++ take o b.entry.texts) m n (subst (λ z. MakesByGroups (z.start ++ take o z.texts) m) same a.made) b.made
+    let begun : a.begun ≡ b.begun = made_by_groups_is_one b.entry.start a.begun b.begun (subst (λ (e : Entry). MakesByGroups e.start a.begun) same a.start) b.start in
+    let from : LeadsByGroups (take o b.entry.texts) b.begun m = subst (λ z. LeadsByGroups (take o b.entry.texts) z m) begun (subst (λ (e : Entry). LeadsByGroups (take o e.texts) a.begun m) same a.led) in
+    led_once (take o b.entry.texts) b.begun m n from b.led

@@ -1,7 +1,7 @@
 -- What a node of a World shows, and what the history of an id gives.
 use Rattle.std.specs.Prelude.{◌≡◌, ◌≤◌, ℕ, List, ◌++◌, Some, true, length, take, slice_get}
 use Rattle.mr_entries.specs.Dataset.{Dataset}
-use Rattle.mr_groups.specs.Folding.{MakesByGroups}
+use Rattle.mr_groups.specs.Folding.{LeadsByGroups, MakesByGroups}
 use Rattle.mr_seen.specs.State.{Slot, Entry, WorldState}
 use Rattle.mr_seen.specs.Books.{entry_of}
 
@@ -15,13 +15,14 @@ pub record Shows (w : WorldState) (n : ℕ) (id : List ℕ) (offset : ℕ) (m : 
   pub held_is : slot.node.core.held ≡ m
 
 -- The history of an id is the commands that make the dataset with which it began, and the texts of its groups of effects since. Up
--- to an offset it gives what those commands and so many bytes of these texts make of nothing, group by group: they end where a group
--- does.
+-- to an offset it gives what so many bytes of these texts make of that dataset, group by group: they end where a group does.
 pub record Gives (w : WorldState) (id : List ℕ) (offset : ℕ) (m : Dataset) : Type 0 where
   pub entry : Entry
   pub found : entry_of w.book id ≡ Some entry
   pub within : offset ≤ length entry.texts
-  pub made : MakesByGroups (entry.start ++ take offset entry.texts) m
+  pub begun : Dataset
+  pub start : MakesByGroups entry.start begun
+  pub led : LeadsByGroups (take offset entry.texts) begun m
 
 -- It began with the same dataset, and there may be more texts behind those of before.
 pub record GoesOn (old new : Entry) : Type 0 where

@@ -3,6 +3,7 @@
 
 mod fault;
 mod laws;
+mod limits;
 mod measure;
 mod place;
 mod progress;
@@ -12,5 +13,6 @@ mod words;
 
 pub use fault::LineFault;
 pub use laws::{faults_say_why, lines_are_apart, one_fault, quoted_words_are_read};
+pub use limits::{LINE_LIMIT, TEXT_LIMIT, WORD_LIMIT, WORDS_LIMIT};
 pub use progress::LineProgress;
 pub use scan::{LineScan, next_line, next_line_from};

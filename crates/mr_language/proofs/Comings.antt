@@ -2,8 +2,8 @@
 use Rattle.std.proofs.Common.{◌≡◌, List, Bool, true, false, refl, subst}
 use Rattle.std.specs.Prelude.{◌&&◌, if◌then◌else◌, Result, Ok, Err}
 use Rattle.mr_map.specs.Bytes.{Bytes}
-use Rattle.mr_words.specs.declared.fault.AskFault.{AskFault}
-use Rattle.mr_words.specs.declared.fault.AskFault.TheVariants as fault
+use Rattle.mr_arguments.specs.declared.fault.AskFault.{AskFault}
+use Rattle.mr_arguments.specs.declared.fault.AskFault.TheVariants as fault
 use Rattle.mr_cmd_server.specs.declared.server_ask.ServerAsk.{ServerAsk}
 use Rattle.mr_cmd_server.specs.declared.server_ask.ServerAsk.TheVariants as server
 use Rattle.mr_cmd_node.specs.declared.node_ask.NodeAsk.{NodeAsk}
@@ -11,10 +11,10 @@ use Rattle.mr_cmd_node.specs.declared.node_ask.NodeAsk.TheVariants as node
 use Rattle.mr_ask.specs.Asks.{asked}
 use Rattle.mr_ask.specs.declared.ask.Ask.{Ask}
 use Rattle.mr_ask.specs.declared.ask.Ask.TheVariants as ask
-use Rattle.mr_plan.specs.Requests.{closes, readonly}
-use Rattle.mr_plan.specs.Writes.{writes}
-use Rattle.mr_plan.specs.Transactions.{Coming, coming, coming_by, coming_of_ask, coming_of_fault, coming_to_node, coming_to_server}
-use Rattle.mr_plan.specs.Transactions.Coming.{waits, marks, nests, drops, ends, quits}
+use Rattle.mr_commands.specs.Requests.{closes, readonly}
+use Rattle.mr_commands.specs.Writes.{writes}
+use Rattle.mr_commands.specs.Transactions.{Coming, coming, coming_by, coming_of_ask, coming_of_fault, coming_to_node, coming_to_server}
+use Rattle.mr_commands.specs.Transactions.Coming.{waits, marks, nests, drops, ends, quits}
 
 -- the command that comes to this, where one alone does
 abbrev pub IsBy : Coming → Result Ask AskFault → Type 0

@@ -8,13 +8,13 @@ use Rattle.std.specs.FinMap.{get, contains_key, keys as member_keys}
 use Rattle.mr_map.specs.Bytes.{Bytes}
 use Rattle.mr_resp.specs.Replies.{Tree}
 use Rattle.mr_value.specs.Lists.{removed_count, count_of}
-use Rattle.mr_value.specs.Number.{is_i64, number_of}
-use Rattle.mr_value.specs.Window.{named_place, window_of}
-use Rattle.mr_value.specs.Words.{fits}
+use Rattle.mr_bytes.specs.Number.{is_i64, number_of}
+use Rattle.mr_bytes.specs.Window.{named_place, window_of}
+use Rattle.mr_bytes.specs.Words.{fits}
 use Rattle.mr_score.specs.Score.{is_score}
-use Rattle.mr_value.specs.declared.ends.End.{End}
-use Rattle.mr_value.specs.declared.ends.End.TheVariants.{Left, Right}
-use Rattle.mr_value.specs.declared.ends.Side.{Side}
+use Rattle.mr_bytes.specs.declared.ends.End.{End}
+use Rattle.mr_bytes.specs.declared.ends.End.TheVariants.{Left, Right}
+use Rattle.mr_bytes.specs.declared.ends.Side.{Side}
 use Rattle.mr_effect.specs.declared.effect.Effect.{Effect}
 use Rattle.mr_effect.specs.declared.effect.Effect.TheVariants as effect
 use Rattle.mr_entries.specs.Dataset.{Dataset}
@@ -25,18 +25,18 @@ use Rattle.mr_entries.specs.declared.value.Entry.{Entry}
 use Rattle.mr_entries.specs.declared.value.Value.{Value}
 use Rattle.mr_entries.specs.declared.value.Value.TheVariants as value
 use Rattle.mr_data.specs.declared.given.Given.{Given}
-use Rattle.mr_planning.specs.Answered.{Answered, kept, done}
-use Rattle.mr_planning.specs.Outcomes.{Outcome}
-use Rattle.mr_planning.specs.Collections.{Change, changed, changing}
-use Rattle.mr_planning.specs.Commands.{Command, on_key, on_keys, before, effects, own_effects}
-use Rattle.mr_planning.specs.Keys.{chosen, dels, expired}
+use Rattle.mr_room.specs.Answered.{Answered, kept, done}
+use Rattle.mr_room.specs.Outcomes.{Outcome}
+use Rattle.mr_room.specs.Collections.{Change, changed, changing}
+use Rattle.mr_room.specs.Commands.{Command, on_key, on_keys, before, effects, own_effects}
+use Rattle.mr_room.specs.Keys.{chosen, dels, expired}
 use Rattle.mr_ask.specs.Asks.{asked}
 use Rattle.mr_ask.specs.declared.ask.Ask.{Ask}
 use Rattle.mr_ask.specs.declared.ask.Ask.TheVariants as ask
-use Rattle.mr_words.specs.declared.fault.AskFault.{AskFault}
-use Rattle.mr_plan.specs.PlannedCommands.{command_of}
-use Rattle.mr_plan.specs.Requests.{HasPlan, IsPlannedAs}
-use Rattle.mr_plan.proofs.Silence.{others_are_silent}
+use Rattle.mr_arguments.specs.declared.fault.AskFault.{AskFault}
+use Rattle.mr_commands.specs.PlannedCommands.{command_of}
+use Rattle.mr_commands.specs.Requests.{HasPlan, IsPlannedAs}
+use Rattle.mr_commands.proofs.Silence.{others_are_silent}
 use Rattle.mr_cmd_string.specs.declared.text_ask.TextAsk.{TextAsk}
 use Rattle.mr_cmd_string.specs.declared.text_ask.TextAsk.TheVariants as text
 use Rattle.mr_cmd_string.specs.declared.text_ask.SetCondition.{SetCondition}

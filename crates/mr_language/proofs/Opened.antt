@@ -11,17 +11,17 @@ use Rattle.mr_data.specs.Meaning.{apply_all}
 use Rattle.mr_data.specs.declared.given.Given.{Given}
 use Rattle.mr_groups.specs.Groups.{as_group, grown_text, group_texts}
 use Rattle.mr_groups.specs.Folding.{apply_groups}
-use Rattle.mr_words.specs.declared.fault.AskFault.{AskFault}
+use Rattle.mr_arguments.specs.declared.fault.AskFault.{AskFault}
 use Rattle.mr_cmd_server.specs.declared.server_ask.ServerAsk.TheVariants as server
 use Rattle.mr_cmd_node.specs.declared.node_ask.NodeAsk.{NodeAsk}
 use Rattle.mr_cmd_node.specs.declared.node_ask.NodeAsk.TheVariants as node
 use Rattle.mr_ask.specs.Asks.{asked}
 use Rattle.mr_ask.specs.declared.ask.Ask.{Ask}
 use Rattle.mr_ask.specs.declared.ask.Ask.TheVariants as ask
-use Rattle.mr_plan.specs.Requests.{closes, readonly}
-use Rattle.mr_plan.specs.Writes.{writes}
-use Rattle.mr_plan.specs.Transactions.{Coming, coming, coming_by, coming_of_ask}
-use Rattle.mr_plan.specs.Transactions.Coming.{waits, marks, nests, drops, ends, quits}
+use Rattle.mr_commands.specs.Requests.{closes, readonly}
+use Rattle.mr_commands.specs.Writes.{writes}
+use Rattle.mr_commands.specs.Transactions.{Coming, coming, coming_by, coming_of_ask}
+use Rattle.mr_commands.specs.Transactions.Coming.{waits, marks, nests, drops, ends, quits}
 use Rattle.mr_history.specs.Language.{Request, Transaction}
 use Rattle.mr_history.specs.Language.Request.{Command, Empty, Quit}
 use Rattle.mr_language.specs.Changes.{HasGroup, HasThen, Leads, LeadsTo}

@@ -9,9 +9,9 @@ use Rattle.mr_entries.specs.Dataset.{Dataset}
 use Rattle.mr_data.specs.declared.given.Given.{Given}
 use Rattle.mr_groups.specs.Groups.{IsGoodGroup, as_group, grown_text, singles}
 use Rattle.mr_groups.proofs.Singles.{good_singles}
-use Rattle.mr_plan.specs.Requests.{HasPlan, left}
-use Rattle.mr_plan.specs.Transactions.{Coming, Frame, coming}
-use Rattle.mr_plan.specs.Transactions.Coming.{ends}
+use Rattle.mr_commands.specs.Requests.{HasPlan, left}
+use Rattle.mr_commands.specs.Transactions.{Coming, Frame, coming}
+use Rattle.mr_commands.specs.Transactions.Coming.{ends}
 use Rattle.mr_history.specs.Language.{Transaction}
 use Rattle.mr_language.specs.Changes.{HasSingles, HasGroup, HasThen, HasWithin, RequestsHaveOneChange, RequestsHaveGoodGroups}
 use Rattle.mr_language.proofs.GoodGroups.{good_effects, good_as_group}

@@ -5,11 +5,11 @@ use Rattle.std.proofs.lemmas.Fmt.{decimal_injective}
 use Rattle.std.proofs.lemmas.List.{append_cancel_left}
 use Rattle.mr_resp.specs.Spelling.{line_end}
 use Rattle.mr_repl.specs.ReplId.{IsId, digits_of}
-use Rattle.mr_lines.specs.Lines.{status, refusal, size, IsLineText, IsPeerLine, most_counted}
-use Rattle.mr_lines.specs.Lines as peers
-use Rattle.mr_lines.specs.Replies.{place_text, reply_text, IsReplyText}
-use Rattle.mr_lines.specs.declared.psync.PsyncReply.TheVariants as reply
-use Rattle.mr_lines.proofs.Apart.{apart, one_line}
+use Rattle.mr_peer_lines.specs.Lines.{status, refusal, size, IsLineText, IsPeerLine, most_counted}
+use Rattle.mr_peer_lines.specs.Lines as peers
+use Rattle.mr_peer_lines.specs.Replies.{place_text, reply_text, IsReplyText}
+use Rattle.mr_peer_lines.specs.declared.psync.PsyncReply.TheVariants as reply
+use Rattle.mr_peer_lines.proofs.Apart.{apart, one_line}
 use Rattle.mr_history.specs.Language.{Line}
 use Rattle.mr_history.specs.Language.Line.{FullResync, Continue, Plain, Refusal}
 use Rattle.mr_language.specs.Lines.{Means, Says}

@@ -10,10 +10,10 @@ use Rattle.mr_effect.proofs.Texts.{one_text}
 use Rattle.mr_entries.specs.Dataset.{Dataset}
 use Rattle.mr_data.specs.Meaning.{apply_all}
 use Rattle.mr_groups.specs.Groups.{IsGoodGroup, multi, group_text}
-use Rattle.mr_groups.specs.Folding.{apply_groups, MakesByGroups}
+use Rattle.mr_groups.specs.Folding.{MakesByGroups}
 use Rattle.mr_groups.proofs.Apart.{one_group}
-use Rattle.mr_groups.proofs.Runs.{many_groups}
-use Rattle.mr_lines.specs.Lines.{size}
+use Rattle.mr_groups.proofs.Going.{made_once}
+use Rattle.mr_peer_lines.specs.Lines.{size}
 use Rattle.mr_replay.specs.Effects.{IsGoodEffect, Makes}
 use Rattle.mr_language.specs.Snapshots.{IsSnapshot}
 use Rattle.mr_language.proofs.Lists.{some_is, same_length}
@@ -31,9 +31,7 @@ text_some (e ∷ []) q = cc
 text_some (e ∷ f ∷ g) q = cc
 
 pub made_by_groups_is_one : (bytes : List ℕ) (m n : Dataset) → MakesByGroups bytes m → MakesByGroups bytes n → m ≡ n
-made_by_groups_is_one bytes m n p q =
-    let s = many_groups p.groups q.groups p.good q.good (sym p.are_texts ∙ q.are_texts) in
-    some_is m n (sym p.applied ∙ (ap (λ z. apply_groups z empty) s ∙ q.applied))
+made_by_groups_is_one = made_once
 
 -- ---- the effects of a snapshot
 few : (e : Effect) → IsShort e → length (words e) < 2 ^ 64

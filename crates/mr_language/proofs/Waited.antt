@@ -16,12 +16,12 @@ use Rattle.mr_data.specs.Meaning.{apply_all}
 use Rattle.mr_data.specs.declared.given.Given.{Given}
 use Rattle.mr_data.proofs.Folding.{apply_all-append}
 use Rattle.mr_groups.specs.Groups.{can_join}
-use Rattle.mr_words.specs.declared.fault.AskFault.{AskFault}
+use Rattle.mr_arguments.specs.declared.fault.AskFault.{AskFault}
 use Rattle.mr_cmd_server.specs.declared.question.Question.{Question}
 use Rattle.mr_ask.specs.Asks.{asked}
 use Rattle.mr_ask.specs.declared.ask.Ask.{Ask}
-use Rattle.mr_plan.specs.Requests.{HasPlan, IsPlain, IsPlannedAs, left, question_in}
-use Rattle.mr_plan.specs.Transactions.{Frame, Does, DoesAll}
+use Rattle.mr_commands.specs.Requests.{HasPlan, IsPlain, IsPlannedAs, left, question_in}
+use Rattle.mr_commands.specs.Transactions.{Frame, Does, DoesAll}
 use Rattle.mr_language.proofs.Joining.{all_join, both_join}
 
 -- ---- one plan

@@ -11,8 +11,8 @@ use Rattle.mr_data.specs.Due.{due, most_deleted, within, deletions}
 use Rattle.mr_data.specs.declared.given.Given.{Given}
 use Rattle.mr_groups.specs.Groups.{IsGoodGroup, as_group, grown_text, singles}
 use Rattle.mr_history.specs.Language.{Transaction}
-use Rattle.mr_plan.specs.Requests.{HasPlan}
-use Rattle.mr_plan.specs.Transactions.{Coming, waits, marks, nests, drops, ends, quits, coming, DoesAll}
+use Rattle.mr_commands.specs.Requests.{HasPlan}
+use Rattle.mr_commands.specs.Transactions.{Coming, waits, marks, nests, drops, ends, quits, coming, DoesAll}
 
 -- Where no transaction is open: the text is a request, which has these effects at a master that holds this dataset. Each is done alone.
 pub record HasSingles (text : List ℕ) (m : Dataset) (given : Given) (groups : List (List Effect)) : Type 0 where

@@ -1,10 +1,10 @@
 -- What a master's line says to the replica that reads it.
 use Rattle.std.specs.Prelude.{ℕ, List}
-use Rattle.mr_lines.specs.Lines.{status, refusal, size, IsPeerLine}
-use Rattle.mr_lines.specs.Lines as peers
-use Rattle.mr_lines.specs.Replies.{IsReplyText}
-use Rattle.mr_lines.specs.declared.psync.PsyncReply.{PsyncReply}
-use Rattle.mr_lines.specs.declared.psync.PsyncReply.TheVariants as reply
+use Rattle.mr_peer_lines.specs.Lines.{status, refusal, size, IsPeerLine}
+use Rattle.mr_peer_lines.specs.Lines as peers
+use Rattle.mr_peer_lines.specs.Replies.{IsReplyText}
+use Rattle.mr_peer_lines.specs.declared.psync.PsyncReply.{PsyncReply}
+use Rattle.mr_peer_lines.specs.declared.psync.PsyncReply.TheVariants as reply
 use Rattle.mr_history.specs.Language.{Line}
 use Rattle.mr_history.specs.Language.Line.{FullResync, Continue, Plain, Refusal}
 

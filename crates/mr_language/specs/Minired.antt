@@ -11,7 +11,7 @@ use Rattle.mr_data.specs.Meaning.{apply_all}
 use Rattle.mr_data.specs.declared.given.Given.{Given}
 use Rattle.mr_groups.specs.Groups.{IsGoodGroup, group_text}
 use Rattle.mr_history.specs.Language.{Language}
-use Rattle.mr_lines.specs.Lines.{most_counted}
+use Rattle.mr_peer_lines.specs.Lines.{most_counted}
 use Rattle.mr_language.specs.Changes.{HasEffects, IsDue, Leads}
 use Rattle.mr_language.specs.Lines.{Says}
 use Rattle.mr_language.specs.Requests.{IsAsked}

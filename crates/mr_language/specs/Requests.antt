@@ -5,7 +5,7 @@ use Rattle.mr_map.specs.Bytes.{Bytes}
 use Rattle.mr_resp.specs.Request.{IsRequest, IsEmptyRequest}
 use Rattle.mr_resp.specs.Usual.{usual}
 use Rattle.mr_repl.specs.ReplId.{IsId, digits_of}
-use Rattle.mr_words.specs.declared.fault.AskFault.{AskFault}
+use Rattle.mr_arguments.specs.declared.fault.AskFault.{AskFault}
 use Rattle.mr_cmd_server.specs.declared.server_ask.ServerAsk.{ServerAsk}
 use Rattle.mr_cmd_server.specs.declared.server_ask.ServerAsk.TheVariants as server
 use Rattle.mr_cmd_node.specs.declared.node_ask.NodeAsk.{NodeAsk}

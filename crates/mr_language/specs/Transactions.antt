@@ -12,8 +12,8 @@ use Rattle.mr_cmd_node.specs.declared.node_ask.NodeAsk.{NodeAsk}
 use Rattle.mr_cmd_node.specs.declared.node_ask.NodeAsk.TheVariants as node
 use Rattle.mr_ask.specs.Asks.{asked}
 use Rattle.mr_ask.specs.declared.ask.Ask.{Ask}
-use Rattle.mr_plan.specs.Requests as plan
-use Rattle.mr_plan.specs.Writes.{writes}
+use Rattle.mr_commands.specs.Requests as plan
+use Rattle.mr_commands.specs.Writes.{writes}
 use Rattle.mr_history.specs.Language.{Request, Transaction}
 use Rattle.mr_history.specs.Language.Request.{Command, Empty, Quit}
 use Rattle.mr_language.specs.Changes.{HasEffects, Leads}

@@ -1,5 +1,5 @@
 -- Links that are opened, read and dialled: the rows of these events, out of what the calls promise.
-use Rattle.std.proofs.Common.{◌≡◌, ◌<◌, ◌≤◌, ◌≢◌, ◌+◌, ◌-◌, ℕ, zero, suc, List, Bool, true, length, take, Option, None, Some, Result, Ok, Err, OnOk, if◌then◌else◌, arith, refl, sym, ap, subst, ◌∙◌}
+use Rattle.std.proofs.Common.{◌≡◌, ◌<◌, ◌≤◌, ◌≢◌, ◌+◌, ◌-◌, ℕ, zero, suc, List, [], ◌∷◌, Bool, true, length, take, Option, None, Some, Result, Ok, Err, OnOk, OnErr, if◌then◌else◌, arith, refl, sym, ap, subst, ◌∙◌}
 use Rattle.std.specs.FinMap.{remove}
 use Rattle.std.proofs.lemmas.List.{length-take-le}
 use Rattle.mr_links.specs.Links.{Links}
@@ -18,15 +18,15 @@ use Rattle.mr_wire.specs.Wire.{LinkState, AcceptsNone, Opens}
 use Rattle.mr_wire.proofs.Places.{one_more, put_and_removed}
 use Rattle.mr_loop.specs.declared.fault.LoopFault.{LoopFault}
 use Rattle.mr_loop.specs.declared.fault.LoopFault.TheVariants as fault
-use Rattle.mr_loop.specs.declared.told.Turn.{Turn}
 use Rattle.mr_loop.specs.Stage.{LoopState, Stage, lacking}
 use Rattle.mr_loop.specs.Carrying.{CarriesAs, SameFile}
 use Rattle.mr_loop.specs.Causes.{Calls, Dropped, HasRoom, TurnsOff, at_dial, stays}
 use Rattle.mr_loop.specs.Rows.{TurnsAway, acts, memory_lacked, opens_no_more, spills, tears, wire_failed}
-use Rattle.mr_loop.specs.Counting.{one_where, taken}
+use Rattle.mr_loop.specs.Counting.{MomentState, Renewed, one_where}
 use Rattle.mr_loop.specs.Outcomes.{Does}
 use Rattle.mr_loop.specs.Quiet.{AllWait}
 use Rattle.mr_loop.proofs.Runs.{broke_one, still_one}
+use Rattle.mr_loop.proofs.Supplying.{renewed_none}
 use Rattle.mr_loop.proofs.Waiting.{all_is, carried_all, dialled_all, ended_all, none_some, some_is}
 
 -- ---- the wire
@@ -139,14 +139,16 @@ no_id : {a b : NodeState} {l : LinkId} {outs : OutsState} → Dials a l b outs �
 no_id d = ap (λ (o : OutsState). o.used) d.outs_are
 
 -- The master was dialled, and what the node gave out was carried out, or wasn't.
-pub dialled_as : (tells : Bool) (mode : SyncMode) (r : Result (Unit {0}) LoopFault) (old new : Turn) (outs : OutsState) (socket link : LinkId) (s m t : Stage)
-    → Calls (at_dial socket link) s m outs → CarriesAs r (outs_of outs) m t → OnOk r (new ≡ taken outs.used old) → Does tells mode r old new s t
-dialled_as tells mode (Ok done) old new outs socket link s m t calls carried turn = still_one (acts (at_dial socket link) outs) old new refl refl refl refl (ap (λ (o : Option (List ℕ)). one_where o) (no_id calls.dials)) refl
+pub dialled_as : (tells : Bool) (mode : SyncMode) (r : Result (Unit {0}) LoopFault) (old new : MomentState) (outs : OutsState) (socket link : LinkId) (s m t : Stage)
+    → Calls (at_dial socket link) s m outs → CarriesAs r (outs_of outs) m t → OnOk r (Renewed outs.used old new) → OnErr r (new ≡ old) → Does tells mode r old new s t
+dialled_as tells mode (Ok done) old new outs socket link s m t calls carried moment kept = still_one (acts (at_dial socket link) outs) old new refl refl refl refl (ap (λ (o : Option (List ℕ)). one_where o) (no_id calls.dials)) refl refl (λ now ids. (no_id calls.dials, refl))
     (record { called = m; calls = calls; carried = carried })
-    (turn ∙ ap (λ (o : Option (List ℕ)). taken o old) (no_id calls.dials))
-dialled_as tells mode (Err fault.File) old new outs socket link s m t calls carried turn = broke_one (tears (at_dial socket link) outs) refl (record { called = m; calls = calls; torn = carried })
-dialled_as tells mode (Err fault.Stopped) old new outs socket link s m t calls carried turn = broke_one (spills (at_dial socket link) outs) refl (record { called = m; calls = calls; spilled = carried })
-dialled_as tells mode (Err fault.Listener) old new outs socket link s m t calls carried turn = absurd carried
+    (renewed_none outs.used old new (no_id calls.dials) moment)
+dialled_as tells mode (Err fault.File) old new outs socket link s m t calls carried moment kept =
+    broke_one (tears (at_dial socket link) outs) (old.fresh ∷ []) refl (no_id calls.dials, refl) (ap (λ (z : MomentState). z.drawn) kept) (record { called = m; calls = calls; torn = carried })
+dialled_as tells mode (Err fault.Stopped) old new outs socket link s m t calls carried moment kept =
+    broke_one (spills (at_dial socket link) outs) (old.fresh ∷ []) refl (no_id calls.dials, refl) (ap (λ (z : MomentState). z.drawn) kept) (record { called = m; calls = calls; spilled = carried })
+dialled_as tells mode (Err fault.Listener) old new outs socket link s m t calls carried moment kept = absurd carried
 
 -- .. and what waits then
 pub dialled_waits : (r : Result (Unit {0}) LoopFault) (outs : OutsState) (link : LinkId) (a : NodeState) (m t : Stage) → Dials a link m.node outs → CarriesAs r (outs_of outs) m t → AllWait a → OnOk r (AllWait t.node)
@@ -154,5 +156,5 @@ dialled_waits (Ok done) outs link a m t dials carried q = carried_all (outs_of o
 dialled_waits (Err why) outs link a m t dials carried q = tt
 
 -- .. where the loop's own state stayed before
-pub from_own : {A : Type 0} (tells : Bool) (mode : SyncMode) (r : Result A LoopFault) (old new : Turn) (s t : Stage) (o : LoopState) → o ≡ s.own → Does tells mode r old new (record s { own = o }) t → Does tells mode r old new s t
+pub from_own : {A : Type 0} (tells : Bool) (mode : SyncMode) (r : Result A LoopFault) (old new : MomentState) (s t : Stage) (o : LoopState) → o ≡ s.own → Does tells mode r old new (record s { own = o }) t → Does tells mode r old new s t
 from_own tells mode r old new s t o e h = subst (λ x. Does tells mode r old new (record s { own = x }) t) e h

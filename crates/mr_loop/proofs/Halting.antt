@@ -19,7 +19,7 @@ regrouped false true b = refl
 regrouped false false b = refl
 
 called : (act : Act) (s m : Stage) (outs : OutsState) → Calls act s m outs → m.own.halted ≡ s.own.halted
-called (at_step socket link given fresh) s m outs c = ap (λ (z : Stage). z.own.halted) c.same
+called (at_step socket link given fresh news) s m outs c = ap (λ (z : Stage). z.own.halted) c.same
 called (at_tick given) s m outs c = ap (λ (z : Stage). z.own.halted) c.same
 called (at_dial socket link) s m outs c = c.halted
 
@@ -47,7 +47,7 @@ module _ (tells : Bool) (mode : SyncMode) where
   kept (misses_tick given) s t goes_on h = ap (λ (z : Stage). z.own.halted) h.is
   kept misses_dial s t goes_on h = ap (λ (z : LoopState). z.halted) h.own
   kept (settles hurries) s t goes_on h = ap (λ (z : Stage). z.own.halted) h.is
-  kept stops s t goes_on h = absurd (no_fault goes_on)
+  kept (stops stop) s t goes_on h = absurd (no_fault goes_on)
 
   known : (es : List Event) (s t : Stage) → Run tells mode s es t → t.own.halted ≡ (halts_in es || s.own.halted)
   known [] s t run = ap (λ (z : Stage). z.own.halted) run

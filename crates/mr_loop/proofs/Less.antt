@@ -8,10 +8,11 @@ use Rattle.mr_links.specs.declared.link_id.LinkId.{LinkId}
 use Rattle.mr_links.proofs.LinkRows.{ids_total}
 use Rattle.mr_data.specs.declared.given.Given.{Given}
 use Rattle.mr_resp.specs.Spelling.{line_end}
-use Rattle.mr_resp.specs.Request.{IsText, IsInArray, line_limit}
+use Rattle.mr_inline.specs.Limits.{line_limit}
+use Rattle.mr_resp.specs.Request.{IsText, IsInArray}
 use Rattle.mr_resp.specs.Usual.{usual}
 use Rattle.mr_resp.proofs.Forms.{array_star, form_of, line_some}
-use Rattle.mr_lines.specs.Lines.{IsMarked, IsPeerLine, Line}
+use Rattle.mr_peer_lines.specs.Lines.{IsMarked, IsPeerLine, Line}
 use Rattle.mr_course.specs.State.{CourseState, name_of}
 use Rattle.mr_course.specs.declared.upstream.UpstreamStep.{UpstreamStep}
 use Rattle.mr_course.specs.declared.upstream.UpstreamStep.TheVariants as outcome

@@ -1,6 +1,7 @@
 pub mod Arrivals
 pub mod Carried
 pub mod Halting
+pub mod Hearing
 pub mod Less
 pub mod Linked
 pub mod Living
@@ -11,6 +12,8 @@ pub mod Runs
 pub mod Same
 pub mod Sending
 pub mod Stepped
+pub mod Supplying
+pub mod Taking
 pub mod Ticks
 pub mod Touching
 pub mod Turned

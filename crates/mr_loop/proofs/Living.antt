@@ -155,7 +155,7 @@ memory_stops : ◌≡◌ {A = Result Step NodeFault} (Err refusal.Memory) (Err r
 memory_stops e = cc
 
 called_up : (act : Act) (s m : Stage) (outs : OutsState) → Calls act s m outs → m.node.core.up ≡ s.node.core.up
-called_up (at_step socket link given fresh) s m outs c = stepped_up s.node m.node link given fresh (Ok (step.Done outs)) done_stops c.stepped
+called_up (at_step socket link given fresh news) s m outs c = stepped_up s.node m.node link given fresh (Ok (step.Done outs)) done_stops c.stepped
 called_up (at_tick given) s m outs c = ticked_up c.row
 called_up (at_dial socket link) s m outs c = ap is_up c.dials.node
 
@@ -183,7 +183,7 @@ module _ (tells : Bool) (mode : SyncMode) where
   still_up (misses_tick given) s t goes_on h = ap (λ (z : Stage). z.node.core.up) h.is
   still_up misses_dial s t goes_on h = off_up s.node t.node h.node
   still_up (settles hurries) s t goes_on h = ap (λ (z : Stage). z.node.core.up) h.is
-  still_up stops s t goes_on h = absurd (no_fault goes_on)
+  still_up (stops stop) s t goes_on h = absurd (no_fault goes_on)
 
   run_up : (es : List Event) (s t : Stage) → Run tells mode s es t → t.node.core.up ≡ s.node.core.up
   run_up [] s t run = ap (λ (z : Stage). z.node.core.up) run

@@ -1,8 +1,8 @@
 -- No bytes.
 use Rattle.std.proofs.Common.{rules, ℕ, List, [], ◌∷◌, refl, inl, inr, lit<, Option}
 use Rattle.mr_inline.specs.Language.{Continues}
-use Rattle.mr_lines.specs.Lines.{IsLineText}
-use Rattle.mr_lines.proofs.Ends.{nothing_yet}
+use Rattle.mr_peer_lines.specs.Lines.{IsLineText}
+use Rattle.mr_peer_lines.proofs.Ends.{nothing_yet}
 use Rattle.mr_follow.specs.State.{started}
 use Rattle.mr_rows.specs.Requests.{Waits}
 use Rattle.mr_loop.specs.Quiet.{Awaits}

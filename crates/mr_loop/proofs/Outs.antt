@@ -1,5 +1,5 @@
 -- How outs are carried out, one after another, and what is the same of a host behind it.
-use Rattle.std.proofs.Common.{◌≡◌, ◌<◌, ◌≤◌, ◌+◌, ℕ, List, [], ◌∷◌, ◌++◌, Bool, true, length, Option, None, Some, Result, Ok, Err, OnOk, OnErr, IfErr, MutBor, append_assoc, append-nil, arith, refl, sym, ap, subst, ◌∙◌}
+use Rattle.std.proofs.Common.{◌≡◌, ◌<◌, ◌≤◌, ◌+◌, ℕ, ℤ, List, [], ◌∷◌, ◌++◌, Bool, true, false, IsTrue, length, Option, None, Some, Result, Ok, Err, OnOk, OnErr, IfErr, MutBor, append_assoc, append-nil, arith, refl, sym, ap, subst, ◌∙◌}
 use Rattle.std.specs.declared.alloc.AllocError.{AllocError}
 use Rattle.mr_links.specs.declared.link_id.LinkId.{LinkId}
 use Rattle.mr_data.specs.declared.given.Given.{Given}
@@ -7,15 +7,19 @@ use Rattle.mr_file.specs.declared.sync_mode.SyncMode.{SyncMode}
 use Rattle.mr_follow.specs.State.{FollowState, Agrees as FollowAgrees}
 use Rattle.mr_course.specs.State.{CourseState, name_of}
 use Rattle.mr_connections.specs.State.{HasLink, parted, sent}
-use Rattle.mr_ends.specs.State.{Transaction}
+use Rattle.mr_ends.specs.State.{EndState, Transaction}
+use Rattle.mr_ends.specs.State.EndState.{client as an_end, waiting as open_end, replica as a_replica, upstream as a_master, shut as closed}
 use Rattle.mr_outs.specs.Outs.{OutState, OutsState, append, close, outs_of, replace, send}
 use Rattle.mr_rows.specs.State.{MasterAgrees, NodeState, end_of}
 use Rattle.mr_rows.specs.LinkRows.{closed_at}
 use Rattle.mr_rows.specs.UpstreamRows as upstream
-use Rattle.mr_node.specs.Calls.{Agreeing}
+use Rattle.mr_node.specs.Calls.{Agreeing, IsClients}
+use Rattle.mr_node.specs.Calls.IsClients.{alone, within}
 use Rattle.mr_node.specs.Calls.Agreeing.{client, waiting, replica, master, shut}
 use Rattle.mr_node.specs.Steps.{ClientStep, MasterStep, ReplicaStep, Steps}
 use Rattle.mr_node.specs.Within.{WithinStep}
+use Rattle.mr_node.specs.Parts.{role_of}
+use Rattle.mr_node.specs.declared.role.Role.{Role}
 use Rattle.mr_node.specs.declared.fault.NodeFault.{NodeFault}
 use Rattle.mr_node.specs.declared.fault.NodeFault.TheVariants as refusal
 use Rattle.mr_node.specs.declared.step.Step.{Step}
@@ -27,11 +31,17 @@ use Rattle.mr_loop.specs.Stage.{Stage, LoopState, filed, lacking, stage, with_co
 use Rattle.mr_loop.specs.Carrying.{Carries, Carried, CarriesAs, CarriesOneAs, Spilled, WantsRoom}
 use Rattle.mr_loop.specs.Causes.{Act, Calls, HasInput, IsLight, Stepped, at_step}
 use Rattle.mr_loop.specs.Rows.{Event, Happens, acts, fault_of, spills, tears}
-use Rattle.mr_loop.specs.Counting.{CountsStill, calls_by, counted, deaf_by, ids_by, one_where, raised, taken, ticks_by, uses_by}
+use Rattle.mr_loop.specs.News.{is_client_end, news_of, place_of}
+use Rattle.mr_loop.specs.declared.followed.News.{News}
+use Rattle.mr_loop.specs.declared.followed.Place.{Place}
+use Rattle.mr_loop.specs.Giving.{IsGiven, IsGivenAct, IsGivenStep, Supplies}
+use Rattle.mr_loop.specs.Counting.{CountsStill, MomentState, Renewed, calls_by, counted, deaf_by, heard_if, ids_by, news_by, one_where, raised, taken, ticks_by, uses_by}
 use Rattle.mr_loop.specs.Outcomes.{Broke}
 use Rattle.mr_loop.specs.Quiet.{AllWait, OthersWait, left_at}
 use Rattle.mr_loop.proofs.Less.{carried_left, done_less}
 use Rattle.mr_loop.proofs.Runs.{broke_one, still_event}
+use Rattle.mr_loop.proofs.Supplying.{renewed_time, renewed_turn, supplies_one}
+use Rattle.mr_loop.proofs.Taking.{step_takes, stepped_with}
 use Rattle.mr_loop.proofs.Waiting.{all_is, closed_waits, others_is, some_is}
 
 -- ---- what stays of a host
@@ -154,10 +164,11 @@ answers_so_far r why all rest later out s t u is e so c = subst (λ z. CarriesAs
 
 -- ---- a call of the node whose outs aren't all carried out
 
-pub not_told : {tells : Bool} {mode : SyncMode} (act : Act) (s called t : Stage) (outs : OutsState) (why : LoopFault) → Calls act s called outs → CarriesAs (Err why) (outs_of outs) called t → Broke tells mode why s t
-not_told act s called t outs fault.File calls torn = broke_one (tears act outs) refl (record { called = called; calls = calls; torn = torn })
-not_told act s called t outs fault.Stopped calls spilled = broke_one (spills act outs) refl (record { called = called; calls = calls; spilled = spilled })
-not_told act s called t outs fault.Listener calls never = absurd never
+pub not_told : {tells : Bool} {mode : SyncMode} {drawn after : Option (List (List ℕ))} (now : ℤ) (unused left : List (List ℕ)) (act : Act) (s called t : Stage) (outs : OutsState) (why : LoopFault) → IsGivenAct now unused act outs.used left → after ≡ drawn
+    → Calls act s called outs → CarriesAs (Err why) (outs_of outs) called t → Broke tells mode now unused drawn after why s t
+not_told now unused left act s called t outs fault.File given same calls torn = broke_one (tears act outs) left refl given same (record { called = called; calls = calls; torn = torn })
+not_told now unused left act s called t outs fault.Stopped given same calls spilled = broke_one (spills act outs) left refl given same (record { called = called; calls = calls; spilled = spilled })
+not_told now unused left act s called t outs fault.Listener given same calls never = absurd never
 
 -- ---- what is counted where a fresh id was taken
 
@@ -177,34 +188,86 @@ pub taken_deaf : (used : Option (List ℕ)) (turn : Turn) → (taken used turn).
 taken_deaf None turn = refl
 taken_deaf (Some id) turn = refl
 
+pub taken_followed : (used : Option (List ℕ)) (turn : Turn) → (taken used turn).followed ≡ turn.followed
+taken_followed None turn = refl
+taken_followed (Some id) turn = refl
+
 -- ---- a step
 
+-- whose end a step was made at
+other_end : {a : NodeState} {l : LinkId} (o : Option EndState) → end_of a l ≡ o → ((u : List ℕ) → Some (an_end u) ≡ o → ⊥) → ((t : Transaction) (u : List ℕ) → Some (open_end t u) ≡ o → ⊥) → IsClients a l → ⊥
+other_end o is no_client no_open (alone u agrees) = no_client u (sym agrees.is ∙ is)
+other_end o is no_client no_open (within t u agrees) = no_open t u (sym agrees.is ∙ is)
+
+client_as : (a : NodeState) (l : LinkId) (b : Bool) (o : Option EndState) → end_of a l ≡ o → (IsTrue b → IsClients a l) → (IsClients a l → IsTrue b) → b ≡ is_client_end o
+client_as a l b (Some (an_end u)) is tells told = told (alone u (record { is = is }))
+client_as a l b (Some (open_end t u)) is tells told = told (within t u (record { is = is }))
+client_as a l true None is tells told = absurd (other_end None is (λ u e. cc) (λ t u e. cc) (tells refl))
+client_as a l true (Some (a_replica u)) is tells told = absurd (other_end (Some (a_replica u)) is (λ v e. cc) (λ t v e. cc) (tells refl))
+client_as a l true (Some a_master) is tells told = absurd (other_end (Some a_master) is (λ u e. cc) (λ t u e. cc) (tells refl))
+client_as a l true (Some closed) is tells told = absurd (other_end (Some closed) is (λ u e. cc) (λ t u e. cc) (tells refl))
+client_as a l false None is tells told = refl
+client_as a l false (Some (a_replica u)) is tells told = refl
+client_as a l false (Some a_master) is tells told = refl
+client_as a l false (Some closed) is tells told = refl
+
+pub at_client : (a : NodeState) (l : LinkId) (b : Bool) → (IsTrue b → IsClients a l) → (IsClients a l → IsTrue b) → b ≡ is_client_end (end_of a l)
+at_client a l b tells told = client_as a l b (end_of a l) refl tells told
+
 -- of a link with a connection on which no more waits than may
-pub steps_at : (s : Stage) (socket link : LinkId) (given : Given) (fresh : List ℕ) (n : NodeState) (outs : OutsState) → HasLink s.own.connections socket link → IsLight s.node s.own socket link → Stepped s.node link given fresh n (Ok (step.Done outs))
-    → Calls (at_step socket link given fresh) s (record s { node = n }) outs
-steps_at s socket link given fresh n outs has light stepped = record { has = has; light = light; stepped = stepped; same = refl }
+pub steps_at : (s : Stage) (socket link : LinkId) (given : Given) (fresh : List ℕ) (news : Option News) (n : NodeState) (outs : OutsState) → HasLink s.own.connections socket link → IsLight s.node s.own socket link → Stepped s.node link given fresh n (Ok (step.Done outs))
+    → news ≡ news_of (place_of (role_of s.node) (is_client_end (end_of s.node link))) (role_of n) outs → Calls (at_step socket link given fresh news) s (record s { node = n }) outs
+steps_at s socket link given fresh news n outs has light stepped are = record { has = has; light = light; stepped = stepped; news_are = are; same = refl }
+
+-- what it came to, by where it is made, the role behind it and the outs that it gave
+pub news_at : (a n : NodeState) (l : LinkId) (place : Place) (after : Role) (outs given_out : OutsState) (news : Option News) → place ≡ place_of (role_of a) (is_client_end (end_of a l)) → after ≡ role_of n → given_out ≡ outs → news ≡ news_of place after given_out
+    → news ≡ news_of (place_of (role_of a) (is_client_end (end_of a l))) (role_of n) outs
+news_at a n l place after outs given_out news where_made role seen are =
+    are ∙ (ap (λ p. news_of p after given_out) where_made ∙ (ap (λ r. news_of (place_of (role_of a) (is_client_end (end_of a l))) r given_out) role ∙ ap (λ o. news_of (place_of (role_of a) (is_client_end (end_of a l))) (role_of n) o) seen))
 
 -- one that used something, with its outs carried out, and what is counted of it
-pub steps_once : {tells : Bool} {mode : SyncMode} (s t : Stage) (socket link : LinkId) (given : Given) (fresh : List ℕ) (n : NodeState) (outs : OutsState) (old counting using new : Turn)
-    → Calls (at_step socket link given fresh) s (record s { node = n }) outs → Carried (outs_of outs) (record s { node = n }) t
-    → counting ≡ record old { steps = counted (old.steps + 1) } → using ≡ record counting { done = counted (counting.done + 1) } → new ≡ taken outs.used using
+-- what is counted as a step is asked for, used something, and came to something between a replica and its master
+abbrev stepped_once : Option News → Turn → Turn
+stepped_once news turn = record turn { steps = counted (turn.steps + 1); done = counted (turn.done + 1); followed = heard_if news turn.followed }
+
+pub steps_once : {tells : Bool} {mode : SyncMode} (s t : Stage) (socket link : LinkId) (given : Given) (fresh : List ℕ) (news : Option News) (n : NodeState) (outs : OutsState) (old mid new : MomentState) (counting using : Turn)
+    → Calls (at_step socket link given fresh news) s (record s { node = n }) outs → Carried (outs_of outs) (record s { node = n }) t → given.now ≡ old.time → fresh ≡ old.fresh → mid ≡ record old { turn = mid.turn }
+    → counting ≡ record old.turn { steps = counted (old.turn.steps + 1) } → using ≡ record counting { done = counted (counting.done + 1) } → mid.turn ≡ record using { followed = heard_if news using.followed } → Renewed outs.used mid new
     → CountsStill tells mode old new s t
-steps_once s t socket link given fresh n outs old counting using new calls carried one used took =
-    still_event (acts (at_step socket link given fresh) outs) old new refl refl (record { called = record s { node = n }; calls = calls; carried = carried })
-    (ap (λ (x : Turn). x.steps) took ∙ (taken_steps outs.used using ∙ (ap (λ (x : Turn). x.steps) used ∙ ap (λ (x : Turn). x.steps) one)))
-    (ap (λ (x : Turn). x.done) took ∙ (taken_done outs.used using ∙ (ap (λ (x : Turn). x.done) used ∙ ap (λ (x : Turn). counted (x.done + 1)) one)))
-    (ap (λ (x : Turn). x.used) took ∙ (taken_used outs.used using ∙ ap (raised (one_where outs.used)) (ap (λ (x : Turn). x.used) used ∙ ap (λ (x : Turn). x.used) one)))
-    (ap (λ (x : Turn). x.deaf) took ∙ (taken_deaf outs.used using ∙ (ap (λ (x : Turn). x.deaf) used ∙ ap (λ (x : Turn). x.deaf) one)))
+steps_once s t socket link given fresh news n outs old mid new counting using calls carried at id still one used heard took =
+    let hearing = mid.turn in
+    let turn : new.turn ≡ taken outs.used hearing = renewed_turn outs.used mid new took in
+    let all : hearing ≡ stepped_once news old.turn = heard ∙ (ap (λ (x : Turn). record x { followed = heard_if news x.followed }) used ∙ ap (λ (x : Turn). record x { done = counted (x.done + 1); followed = heard_if news x.followed }) one) in
+    still_event (acts (at_step socket link given fresh news) outs) old new refl refl (record { called = record s { node = n }; calls = calls; carried = carried })
+    (stepped_with old mid new socket link given fresh news outs at id still (step_takes s.node n link given fresh outs calls.stepped) took)
+    (renewed_time outs.used mid new took ∙ ap (λ (m : MomentState). m.time) still)
+    (ap (λ (x : Turn). x.steps) turn ∙ (taken_steps outs.used hearing ∙ ap (λ (x : Turn). x.steps) all))
+    (ap (λ (x : Turn). x.done) turn ∙ (taken_done outs.used hearing ∙ ap (λ (x : Turn). x.done) all))
+    (ap (λ (x : Turn). x.used) turn ∙ (taken_used outs.used hearing ∙ ap (λ (x : Turn). raised (one_where outs.used) x.used) all))
+    (ap (λ (x : Turn). x.deaf) turn ∙ (taken_deaf outs.used hearing ∙ ap (λ (x : Turn). x.deaf) all))
+    (ap (λ (x : Turn). x.followed) turn ∙ (taken_followed outs.used hearing ∙ ap (λ (x : Turn). x.followed) all))
+
+-- the id that it is given is left where it takes none
+pub given_none : (now : ℤ) (given : Given) (fresh id : List ℕ) → given.now ≡ now → fresh ≡ id → IsGivenStep now (id ∷ []) given fresh None (id ∷ [])
+given_none now given fresh id at is = record { at = at; behind = []; first = ap (λ (z : List ℕ). z ∷ []) (sym is); taken = refl }
+
+pub gives_none : (e : Event) (old new : MomentState) → IsGiven old.time (old.fresh ∷ []) e (old.fresh ∷ []) → new.fresh ≡ old.fresh → new.drawn ≡ old.drawn → Supplies old.time (old.fresh ∷ []) old.drawn (e ∷ []) (new.fresh ∷ []) new.drawn
+gives_none e old new given fresh drawn =
+    subst (λ (id : List ℕ). Supplies old.time (old.fresh ∷ []) old.drawn (e ∷ []) (id ∷ []) new.drawn) (sym fresh) (supplies_one old.time (old.fresh ∷ []) (old.fresh ∷ []) old.drawn new.drawn e given drawn)
 
 -- one of which only that it was made is counted
-pub counts_call : {tells : Bool} {mode : SyncMode} {s t : Stage} (e : Event) (old counting new : Turn) → fault_of e ≡ None → ticks_by e ≡ 0 → calls_by e ≡ 1 → uses_by e ≡ 0 → ids_by e ≡ 0 → deaf_by e ≡ 0
-    → Happens tells mode s e t → counting ≡ record old { steps = counted (old.steps + 1) } → new ≡ counting → CountsStill tells mode old new s t
-counts_call e old counting new goes_on no_tick call uses ids deaf h one same =
+pub counts_call : {tells : Bool} {mode : SyncMode} {s t : Stage} (e : Event) (old new : MomentState) (counting : Turn) → fault_of e ≡ None → ticks_by e ≡ 0 → calls_by e ≡ 1 → uses_by e ≡ 0 → ids_by e ≡ 0 → deaf_by e ≡ 0 → news_by e ≡ None
+    → Happens tells mode s e t → IsGiven old.time (old.fresh ∷ []) e (old.fresh ∷ []) → counting ≡ record old.turn { steps = counted (old.turn.steps + 1) } → new ≡ record old { turn = counting } → CountsStill tells mode old new s t
+counts_call e old new counting goes_on no_tick call uses ids deaf news h given one same =
+    let all : new.turn ≡ record old.turn { steps = counted (old.turn.steps + 1) } = ap (λ (m : MomentState). m.turn) same ∙ one in
     still_event e old new goes_on no_tick h
-    (ap (λ (x : Turn). x.steps) (same ∙ one) ∙ ap (λ k. raised k old.steps) (sym call))
-    (ap (λ (x : Turn). x.done) (same ∙ one) ∙ ap (λ k. raised k old.done) (sym uses))
-    (ap (λ (x : Turn). x.used) (same ∙ one) ∙ ap (λ k. raised k old.used) (sym ids))
-    (ap (λ (x : Turn). x.deaf) (same ∙ one) ∙ ap (λ k. raised k old.deaf) (sym deaf))
+    (gives_none e old new given (ap (λ (m : MomentState). m.fresh) same) (ap (λ (m : MomentState). m.drawn) same))
+    (ap (λ (m : MomentState). m.time) same)
+    (ap (λ (x : Turn). x.steps) all ∙ ap (λ k. raised k old.turn.steps) (sym call))
+    (ap (λ (x : Turn). x.done) all ∙ ap (λ k. raised k old.turn.done) (sym uses))
+    (ap (λ (x : Turn). x.used) all ∙ ap (λ k. raised k old.turn.used) (sym ids))
+    (ap (λ (x : Turn). x.deaf) all ∙ ap (λ k. raised k old.turn.deaf) (sym deaf))
+    (ap (λ (x : Turn). x.followed) all ∙ ap (λ n. heard_if n old.turn.followed) (sym news))
 
 -- where something is unread, a step isn't answered so
 never_at : (a b : NodeState) (l : LinkId) (u : List ℕ) (given : Given) (fresh : List ℕ) (r : Result Step NodeFault) → (ClientStep a l u given fresh b r → ⊥) → ((t : Transaction) → WithinStep a l t u given b r → ⊥) → (ReplicaStep a l u b r → ⊥) → (MasterStep a l b r → ⊥)

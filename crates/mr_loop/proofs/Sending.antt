@@ -182,7 +182,7 @@ acted_by k (Some l) w act outs p there = record {
 }
 
 called_there : (act : Act) (s m : Stage) (outs : OutsState) (k : LinkId) (c : ConnectionState) → Calls act s m outs → connection_at s.own k ≡ Some c → connection_at m.own k ≡ Some c
-called_there (at_step socket link given fresh) s m outs k c h here = ap (λ (z : Stage). connection_at z.own k) h.same ∙ here
+called_there (at_step socket link given fresh news) s m outs k c h here = ap (λ (z : Stage). connection_at z.own k) h.same ∙ here
 called_there (at_tick given) s m outs k c h here = ap (λ (z : Stage). connection_at z.own k) h.same ∙ here
 called_there (at_dial socket link) s m outs k c h here = begun_other s.own m.own socket k (begun link) c h.fresh here h.connections
 
@@ -234,7 +234,7 @@ module _ (tells : Bool) (mode : SyncMode) where
   kept (misses_tick given) s t k c here goes_on stays h = same_own (misses_tick given) s.own t.own k c here (by_stage h.is) refl (λ l. refl) (λ l. refl)
   kept misses_dial s t k c here goes_on stays h = same_own misses_dial s.own t.own k c here (by_own h.own) refl (λ l. refl) (λ l. refl)
   kept (settles hurries) s t k c here goes_on stays h = same_own (settles hurries) s.own t.own k c here (by_stage h.is) refl (λ l. refl) (λ l. refl)
-  kept stops s t k c here goes_on stays h = absurd (no_fault goes_on)
+  kept (stops stop) s t k c here goes_on stays h = absurd (no_fault goes_on)
 
 -- ---- a run
 
@@ -311,12 +311,12 @@ carried_holds (halt ∷ outs) s t xs c h = carried_holds outs c.0 t xs c.2 (hold
 
 -- a call itself does nothing to the file
 called_told : (act : Act) (s m : Stage) (outs : OutsState) → Calls act s m outs → SameFile s m
-called_told (at_step socket link given fresh) s m outs h = (ap (λ (z : Stage). z.told) h.same, ap (λ (z : Stage). z.synced) h.same)
+called_told (at_step socket link given fresh news) s m outs h = (ap (λ (z : Stage). z.told) h.same, ap (λ (z : Stage). z.synced) h.same)
 called_told (at_tick given) s m outs h = (ap (λ (z : Stage). z.told) h.same, ap (λ (z : Stage). z.synced) h.same)
 called_told (at_dial socket link) s m outs h = h.file
 
 called_batch : (act : Act) (s m : Stage) (outs : OutsState) → Calls act s m outs → m.own.batch ≡ s.own.batch
-called_batch (at_step socket link given fresh) s m outs h = ap (λ (z : Stage). z.own.batch) h.same
+called_batch (at_step socket link given fresh news) s m outs h = ap (λ (z : Stage). z.own.batch) h.same
 called_batch (at_tick given) s m outs h = ap (λ (z : Stage). z.own.batch) h.same
 called_batch (at_dial socket link) s m outs h = h.batch
 
@@ -381,7 +381,7 @@ module _ (tells : Bool) (mode : SyncMode) where
   filed (misses_tick given) s t xs goes_on h held = holds_same s t xs (ap (λ (z : Stage). z.told) h.is) (ap (λ (z : Stage). z.own.batch) h.is) held
   filed misses_dial s t xs goes_on h held = holds_same s t xs h.file.0 (batch_of h.own) held
   filed (settles hurries) s t xs goes_on h held = holds_same s t xs (ap (λ (z : Stage). z.told) h.is) (ap (λ (z : Stage). z.own.batch) h.is) held
-  filed stops s t xs goes_on h held = absurd (no_fault goes_on)
+  filed (stops stop) s t xs goes_on h held = absurd (no_fault goes_on)
 
   all_filed : (es : List Event) (s t : Stage) (xs : List ℕ) → Run tells mode s es t → Holds s xs → Holds t (filed_in es xs)
   all_filed [] s t xs run held = holds_is s t xs run held
@@ -411,7 +411,7 @@ module _ (tells : Bool) where
   synced_kept (misses_tick given) s t goes_on h whole = synced_same s t (ap (λ (z : Stage). z.told) h.is, ap (λ (z : Stage). z.synced) h.is) (ap (λ (z : Stage). z.own.batch) h.is) whole
   synced_kept misses_dial s t goes_on h whole = synced_same s t h.file (batch_of h.own) whole
   synced_kept (settles hurries) s t goes_on h whole = synced_same s t (ap (λ (z : Stage). z.told) h.is, ap (λ (z : Stage). z.synced) h.is) (ap (λ (z : Stage). z.own.batch) h.is) whole
-  synced_kept stops s t goes_on h whole = absurd (no_fault goes_on)
+  synced_kept (stops stop) s t goes_on h whole = absurd (no_fault goes_on)
 
   all_synced : (es : List Event) (s t : Stage) → Run tells sync.Always s es t → IsSyncedWhole s → IsSyncedWhole t
   all_synced [] s t run whole = subst IsSyncedWhole (sym run) whole
@@ -478,7 +478,7 @@ silent_new v w n f none o = record { each = each; new = new }
     ] (sym (found l) ∙ there)
 
 called_silent : (act : Act) (s m : Stage) (outs : OutsState) → Calls act s m outs → IsSilent s.wire m.wire
-called_silent (at_step socket link given fresh) s m outs h = silent_same (ap (λ (z : Stage). z.wire.open_links) h.same)
+called_silent (at_step socket link given fresh news) s m outs h = silent_same (ap (λ (z : Stage). z.wire.open_links) h.same)
 called_silent (at_tick given) s m outs h = silent_same (ap (λ (z : Stage). z.wire.open_links) h.same)
 called_silent (at_dial socket link) s m outs h = silent_new s.wire m.wire socket (asked_link h.connects.0) refl h.connects.2
 
@@ -490,8 +490,8 @@ module _ (tells : Bool) (mode : SyncMode) where
   silent (spills act outs) why s t told h = silent_on (spilled_wire (outs_of outs) h.called t h.spilled) (called_silent act s h.called outs h.calls)
   silent (tears act outs) why s t told h = silent_on (torn_wire (outs_of outs) h.called t h.torn) (called_silent act s h.called outs h.calls)
   silent fails why s t told h = silent_same (ap (λ (z : Links LinkState). z.open_links) h.wire)
-  silent stops why s t told h = silent_same (ap (λ (z : Links LinkState). z.open_links) h.wire)
+  silent (stops stop) why s t told h = silent_same (ap (λ (z : Links LinkState). z.open_links) h.wire)
   silent _ why s t told h = absurd (not_told told)
 
 pub is_silent_behind_faults : IsSilentBehindFaults
-is_silent_behind_faults tells mode why s t b = silent_on (ap (λ (z : Stage). z.wire) b.stopped.is) (silent tells mode b.broke.last why b.broke.before b.behind b.broke.told b.broke.happens)
+is_silent_behind_faults tells mode now unused drawn after why s t b = silent_on (ap (λ (z : Stage). z.wire) b.stopped.is) (silent tells mode b.broke.last why b.broke.before b.behind b.broke.told b.broke.happens)

@@ -130,7 +130,7 @@ pub record Heard (a : NodeState) (l : LinkId) (u : List ℕ) (came : UpstreamSte
   pub follow : b.follow ≡ course.follow
 
 -- what reads at the link is what the row speaks of
-row_of : (a b : NodeState) (l : LinkId) (u : List ℕ) (came : UpstreamStep) (course : CourseState) (told : List ℕ) (h : Listens (course_of a) a.core.held (Ok came) course b.core.held told) → h.name ≡ l
+pub row_of : (a b : NodeState) (l : LinkId) (u : List ℕ) (came : UpstreamStep) (course : CourseState) (told : List ℕ) (h : Listens (course_of a) a.core.held (Ok came) course b.core.held told) → h.name ≡ l
     → (m : MasterAgrees a l u) → UpstreamRow (course_of a) a.core.held l m.reader u h.next (Ok came) course b.core.held told
 row_of a b l u came course told h named m =
     let same = some_is (h.name, h.follow) (l, m.reader) (sym h.found ∙ m.found) in

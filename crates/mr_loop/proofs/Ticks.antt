@@ -24,18 +24,19 @@ use Rattle.mr_node.specs.declared.fault.NodeFault.TheVariants as refusal
 use Rattle.mr_wire.specs.Wire.{LinkState}
 use Rattle.mr_loop.specs.declared.fault.LoopFault.{LoopFault}
 use Rattle.mr_loop.specs.declared.host.Host.{Host}
-use Rattle.mr_loop.specs.declared.told.Turn.{Turn}
 use Rattle.mr_loop.specs.Stage.{Stage}
 use Rattle.mr_loop.specs.Carrying.{Carried}
 use Rattle.mr_loop.specs.Causes.{at_tick}
-use Rattle.mr_loop.specs.Counting.{IsTickDue, Passes, TickAt, most_ticks, taken, ticks_by}
+use Rattle.mr_loop.specs.Counting.{IsTickDue, MomentState, Passes, Renewed, most_ticks, one_where, raised, ticks_by}
 use Rattle.mr_loop.specs.Going.{PassesAs, PassesOn}
-use Rattle.mr_loop.specs.Hosts.{stage_in}
-use Rattle.mr_loop.specs.Outcomes.{Broke}
+use Rattle.mr_loop.specs.Hosts.{moment_in, stage_in}
+use Rattle.mr_loop.specs.Outcomes.{HasBroken}
 use Rattle.mr_loop.specs.Rows.{Event, MissesTick, acts, misses_tick}
 use Rattle.mr_loop.proofs.Carried.{carried_core}
-use Rattle.mr_loop.proofs.Outs.{taken_deaf, taken_done, taken_steps, taken_used}
-use Rattle.mr_loop.proofs.Runs.{broke_moded, counts_event, counts_on, sum_append, went_broke, went_nowhere}
+use Rattle.mr_loop.proofs.Outs.{gives_none}
+use Rattle.mr_loop.proofs.Runs.{broke_moded, counts_broke, counts_event, counts_none, counts_on, sum_append}
+use Rattle.mr_loop.proofs.Supplying.{renewed_none}
+use Rattle.mr_loop.proofs.Taking.{tick_takes}
 use Rattle.mr_loop.proofs.Waiting.{none_some, some_is}
 
 -- ---- what a tick that deletes nothing leaves due
@@ -129,55 +130,62 @@ missed_same a b now refusal.InputFull other row = absurd row
 
 -- ---- one tick
 
-pub ticks_once : {tells : Bool} {mode : SyncMode} (s t : Stage) (n : NodeState) (given : Given) (outs : OutsState) (old new : Turn) → TickRow s.node given.now n outs → Carried (outs_of outs) (record s { node = n }) t → new ≡ taken outs.used old
-    → Passes tells mode given.now 1 old new s t
-ticks_once s t n given outs old new row carried took = record {
-  counts = counts_event (acts (at_tick given) outs) old new refl (record { called = record s { node = n }; calls = record { row = row; same = refl }; carried = carried })
-      (ap (λ (x : Turn). x.steps) took ∙ taken_steps outs.used old)
-      (ap (λ (x : Turn). x.done) took ∙ taken_done outs.used old)
-      (ap (λ (x : Turn). x.used) took ∙ taken_used outs.used old)
-      (ap (λ (x : Turn). x.deaf) took ∙ taken_deaf outs.used old);
-  done = ap (λ (x : Turn). x.done) took ∙ taken_done outs.used old;
-  ticked = omega arith;
-  at = (refl, tt);
-}
+pub ticks_once : {tells : Bool} {mode : SyncMode} (s t : Stage) (n : NodeState) (given : Given) (outs : OutsState) (old mid new : MomentState) → TickRow s.node given.now n outs → Carried (outs_of outs) (record s { node = n }) t
+    → given.now ≡ old.time → mid ≡ old → Renewed outs.used mid new
+    → Passes tells mode 1 old new s t
+ticks_once s t n given outs old mid new row carried at still took =
+    let none = tick_takes s.node n given.now outs row in
+    let same : new ≡ old = renewed_none outs.used mid new none took ∙ still in record {
+      counts = counts_event (acts (at_tick given) outs) old new refl (record { called = record s { node = n }; calls = record { row = row; same = refl }; carried = carried })
+          (gives_none (acts (at_tick given) outs) old new (at, none, refl) (ap (λ (m : MomentState). m.fresh) same) (ap (λ (m : MomentState). m.drawn) same))
+          (ap (λ (m : MomentState). m.time) same)
+          (ap (λ (m : MomentState). m.turn.steps) same)
+          (ap (λ (m : MomentState). m.turn.done) same)
+          (ap (λ (m : MomentState). m.turn.used) same ∙ ap (λ (u : Option (List ℕ)). raised (one_where u) old.turn.used) (sym none))
+          (ap (λ (m : MomentState). m.turn.deaf) same)
+          (ap (λ (m : MomentState). m.turn.followed) same);
+      done = ap (λ (m : MomentState). m.turn.done) same;
+      ticked = omega arith;
+    }
 
 -- one for which memory ran out
-pub misses_once : {tells : Bool} {mode : SyncMode} (s t : Stage) (given : Given) (turn : Turn) → MissesTick s t → Passes tells mode given.now 1 turn turn s t
-misses_once s t given turn misses = record { counts = counts_event (misses_tick given) turn turn refl misses refl refl refl refl; done = refl; ticked = omega arith; at = (refl, tt) }
+pub misses_once : {tells : Bool} {mode : SyncMode} (s t : Stage) (given : Given) (old new : MomentState) → given.now ≡ old.time → new ≡ old → MissesTick s t → Passes tells mode 1 old new s t
+misses_once s t given old new at same misses = record {
+  counts = counts_event (misses_tick given) old new refl misses
+      (gives_none (misses_tick given) old new (at, refl) (ap (λ (m : MomentState). m.fresh) same) (ap (λ (m : MomentState). m.drawn) same))
+      (ap (λ (m : MomentState). m.time) same)
+      (ap (λ (m : MomentState). m.turn.steps) same)
+      (ap (λ (m : MomentState). m.turn.done) same)
+      (ap (λ (m : MomentState). m.turn.used) same)
+      (ap (λ (m : MomentState). m.turn.deaf) same)
+      (ap (λ (m : MomentState). m.turn.followed) same);
+  done = ap (λ (m : MomentState). m.turn.done) same;
+  ticked = omega arith;
+}
 
--- at the moment of the turn, and in the mode of its log
-pub passes_at : {tells : Bool} {count : ℕ} {old new : Turn} {s t : Stage} (m n : SyncMode) (x now : ℤ) → m ≡ n → x ≡ now → Passes tells m x count old new s t → Passes tells n now count old new s t
-passes_at {tells} {count} {old} {new} {s} {t} m n x now mode moment p = subst (λ k. Passes tells k now count old new s t) mode (subst (λ z. Passes tells m z count old new s t) moment p)
+-- in the mode of the turn's log
+pub passes_moded : {tells : Bool} {count : ℕ} {old new : MomentState} {s t : Stage} (m n : SyncMode) → m ≡ n → Passes tells m count old new s t → Passes tells n count old new s t
+passes_moded {tells} {count} {old} {new} {s} {t} m n mode p = subst (λ k. Passes tells k count old new s t) mode p
 
 -- ---- ticks so far, with so many that are left
 
-at_append : (now : ℤ) (xs ys : List Event) → TickAt now xs → TickAt now ys → TickAt now (xs ++ ys)
-at_append now [] ys h k = k
-at_append now (x ∷ xs) ys h k = (h.0, at_append now xs ys h.1 k)
-
-passes_on : {tells : Bool} {mode : SyncMode} {now : ℤ} {m n : ℕ} {old mid new : Turn} {a b c : Stage} → Passes tells mode now m old mid a b → Passes tells mode now n mid new b c → Passes tells mode now (m + n) old new a c
-passes_on {tells} {mode} {now} x y = record {
+passes_on : {tells : Bool} {mode : SyncMode} {m n : ℕ} {old mid new : MomentState} {a b c : Stage} → Passes tells mode m old mid a b → Passes tells mode n mid new b c → Passes tells mode (m + n) old new a c
+passes_on x y = record {
   counts = counts_on x.counts y.counts;
   done = y.done ∙ x.done;
   ticked = sum_append ticks_by x.counts.went.events y.counts.went.events ∙ omega (arith, x.ticked, y.ticked);
-  at = at_append now x.counts.went.events y.counts.went.events x.at y.at;
 }
 
-pub record PassesSoFar (tells : Bool) (mode : SyncMode) (now : ℤ) (most left : ℕ) (old new : Turn) (s t : Stage) : Type 0 where
+pub record PassesSoFar (tells : Bool) (mode : SyncMode) (most left : ℕ) (old new : MomentState) (s t : Stage) : Type 0 where
   pub count : ℕ
-  pub went : Passes tells mode now count old new s t
+  pub went : Passes tells mode count old new s t
   pub all : count + left ≡ most
 
-pub none_passed : {tells : Bool} {mode : SyncMode} (now : ℤ) (most left : ℕ) (turn : Turn) (s : Stage) → left ≡ most → PassesSoFar tells mode now most left turn turn s s
-none_passed now most left turn s e = record {
-  count = 0;
-  went = record { counts = record { went = went_nowhere s; steps_are = refl; done_are = refl; used_are = refl; deaf_are = refl }; done = refl; ticked = refl; at = tt };
-  all = omega (arith, e);
-}
+pub none_passed : {tells : Bool} {mode : SyncMode} (most left : ℕ) (moment : MomentState) (s : Stage) → left ≡ most → PassesSoFar tells mode most left moment moment s s
+none_passed most left moment s e = record { count = 0; went = record { counts = counts_none moment s; done = refl; ticked = refl }; all = omega (arith, e) }
 
 -- .. and one more
-pub one_passed : {tells : Bool} {mode : SyncMode} {now : ℤ} {most : ℕ} (left less : ℕ) {old mid new : Turn} {a b c : Stage} → left ≡ less + 1 → PassesSoFar tells mode now most left old mid a b → Passes tells mode now 1 mid new b c → PassesSoFar tells mode now most less old new a c
+pub one_passed : {tells : Bool} {mode : SyncMode} {most : ℕ} (left less : ℕ) {old mid new : MomentState} {a b c : Stage} → left ≡ less + 1 → PassesSoFar tells mode most left old mid a b → Passes tells mode 1 mid new b c → PassesSoFar tells mode most less old new a c
 one_passed left less one so next = record { count = so.count + 1; went = passes_on so.went next; all = omega (arith, so.all, one) }
 
 some_ticks : (n : ℕ) → 0 < most_ticks n
@@ -186,16 +194,16 @@ some_ticks n = omega arith
 true_false : (b : Bool) → b ≡ true → b ≡ false → ⊥
 true_false b is not = let wrong : true ≡ false = sym is ∙ not in cc
 
-module _ {W F S : Type 0} (tells : Bool) (links : W → Links LinkState) (failures : W → ℕ) (told : F → Option (List ℕ)) (synced : F → Option ℕ) where
+module _ {W F S : Type 0} (tells : Bool) (links : W → Links LinkState) (failures : W → ℕ) (told : F → Option (List ℕ)) (synced : F → Option ℕ) (drawn : S → Option (List (List ℕ))) where
   -- none is left
   pub all_passed : (a b : Host W F S) (left done : ℕ) → left ≡ 0
-      → PassesSoFar tells a.log.now.mode a.moment.time (most_ticks done) left a.moment.turn b.moment.turn (stage_in links failures told synced a) (stage_in links failures told synced b) → PassesOn tells links failures told synced true (most_ticks done) a b
+      → PassesSoFar tells a.log.now.mode (most_ticks done) left (moment_in drawn a) (moment_in drawn b) (stage_in links failures told synced a) (stage_in links failures told synced b) → PassesOn tells links failures told synced drawn true (most_ticks done) a b
   all_passed a b left done e so = record { count = so.count; went = so.went; some = omega (arith, e, some_ticks done, so.all); few = omega (arith, so.all); keeps_up = λ due. (omega (arith, e, so.all), refl) }
 
   -- .. or nothing more is due
-  pub enough_passed : (a b : Host W F S) (left less most : ℕ) (mid : Turn) (s : Stage) (more : Bool) → left ≡ less + 1
-      → PassesSoFar tells a.log.now.mode a.moment.time most left a.moment.turn mid (stage_in links failures told synced a) s → Passes tells a.log.now.mode a.moment.time 1 mid b.moment.turn s (stage_in links failures told synced b)
-      → (IsTickDue a.moment.time b.node.now → more ≡ true) → more ≡ false → PassesOn tells links failures told synced false most a b
+  pub enough_passed : (a b : Host W F S) (left less most : ℕ) (mid : MomentState) (s : Stage) (more : Bool) → left ≡ less + 1
+      → PassesSoFar tells a.log.now.mode most left (moment_in drawn a) mid (stage_in links failures told synced a) s → Passes tells a.log.now.mode 1 mid (moment_in drawn b) s (stage_in links failures told synced b)
+      → (IsTickDue a.moment.time b.node.now → more ≡ true) → more ≡ false → PassesOn tells links failures told synced drawn false most a b
   enough_passed a b left less most mid s more one so next keeps ends = record {
     count = so.count + 1;
     went = passes_on so.went next;
@@ -205,7 +213,7 @@ module _ {W F S : Type 0} (tells : Bool) (links : W → Links LinkState) (failur
   }
 
   -- .. or a fault came
-  pub breaks_passing : (a b : Host W F S) (left most : ℕ) (mid : Turn) (s : Stage) (m : SyncMode) (r : Result Bool LoopFault) (why : LoopFault) → r ≡ Err why → m ≡ a.log.now.mode
-      → PassesSoFar tells a.log.now.mode a.moment.time most left a.moment.turn mid (stage_in links failures told synced a) s → Broke tells m why s (stage_in links failures told synced b) → PassesAs tells links failures told synced r most a b
+  pub breaks_passing : (a b : Host W F S) (left most : ℕ) (mid : MomentState) (s : Stage) (m : SyncMode) (r : Result Bool LoopFault) (why : LoopFault) → r ≡ Err why → m ≡ a.log.now.mode
+      → PassesSoFar tells a.log.now.mode most left (moment_in drawn a) mid (stage_in links failures told synced a) s → HasBroken tells m why mid (moment_in drawn b) s (stage_in links failures told synced b) → PassesAs tells links failures told synced drawn r most a b
   breaks_passing a b left most mid s m r why is mode so broke =
-      subst (λ (z : Result Bool LoopFault). PassesAs tells links failures told synced z most a b) (sym is) (went_broke so.went.counts.went (broke_moded m a.log.now.mode mode broke))
+      subst (λ (z : Result Bool LoopFault). PassesAs tells links failures told synced drawn z most a b) (sym is) (counts_broke so.went.counts (broke_moded m a.log.now.mode mode broke))

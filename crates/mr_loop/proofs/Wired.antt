@@ -129,7 +129,7 @@ by_stage : {s t : Stage} → HaveSockets s → t.own ≡ s.own → t.wire ≡ s.
 by_stage {s} {t} h own wire = socketed s t h (by_own own) (same_wire wire)
 
 called_sockets : (act : Act) (s m : Stage) (outs : OutsState) → Calls act s m outs → HaveSockets s → HaveSockets m
-called_sockets (at_step socket link given fresh) s m outs c h = by_stage h (ap (λ (z : Stage). z.own) c.same) (ap (λ (z : Stage). z.wire) c.same)
+called_sockets (at_step socket link given fresh news) s m outs c h = by_stage h (ap (λ (z : Stage). z.own) c.same) (ap (λ (z : Stage). z.wire) c.same)
 called_sockets (at_tick given) s m outs c h = by_stage h (ap (λ (z : Stage). z.own) c.same) (ap (λ (z : Stage). z.wire) c.same)
 called_sockets (at_dial socket link) s m outs c h = began s m socket (begun link) (asked_link c.connects.0) h c.connects.2 c.connections
 
@@ -157,7 +157,7 @@ module _ (tells : Bool) (mode : SyncMode) where
   sockets_kept (misses_tick given) s t held goes_on h = socketed s t held (were_same (ap (λ (z : Stage). z.own.connections) h.is)) (same_wire (ap (λ (z : Stage). z.wire) h.is))
   sockets_kept misses_dial s t held goes_on h = socketed s t held (by_own h.own) (same_open h.wire.links)
   sockets_kept (settles hurries) s t held goes_on h = socketed s t held (were_same (ap (λ (z : Stage). z.own.connections) h.is)) (same_wire (ap (λ (z : Stage). z.wire) h.is))
-  sockets_kept stops s t held goes_on h = absurd (no_fault goes_on)
+  sockets_kept (stops stop) s t held goes_on h = absurd (no_fault goes_on)
 
   sockets_stay : (es : List Event) (s t : Stage) → HaveSockets s → Run tells mode s es t → HaveSockets t
   sockets_stay [] s t held run = subst HaveSockets (sym run) held
@@ -223,7 +223,7 @@ written s w j k c answer bytes waiting h here are t = elim (eq_by_cmp id_cmp k j
 ] refl
 
 called_moved : (act : Act) (s m : Stage) (outs : OutsState) (k : LinkId) (c : ConnectionState) → HaveSockets s → connection_at s.own k ≡ Some c → Calls act s m outs → moved_on m.wire k ≡ moved_on s.wire k
-called_moved (at_step socket link given fresh) s m outs k c held here h = ap (λ (z : Stage). moved_on z.wire k) h.same
+called_moved (at_step socket link given fresh news) s m outs k c held here h = ap (λ (z : Stage). moved_on z.wire k) h.same
 called_moved (at_tick given) s m outs k c held here h = ap (λ (z : Stage). moved_on z.wire k) h.same
 called_moved (at_dial socket link) s m outs k c held here h = moved_before s m.wire socket k c (asked_link h.connects.0) held here h.connects.2
 
@@ -251,7 +251,7 @@ module _ (mode : SyncMode) where
   moved_kept (misses_tick given) s t k c held here goes_on stays h = unmoved (misses_tick given) k refl (ap (λ (z : Stage). z.wire) h.is)
   moved_kept misses_dial s t k c held here goes_on stays h = quiet s.wire t.wire misses_dial k refl (ap (λ z. moved_of (get z k)) h.wire.links)
   moved_kept (settles hurries) s t k c held here goes_on stays h = unmoved (settles hurries) k refl (ap (λ (z : Stage). z.wire) h.is)
-  moved_kept stops s t k c held here goes_on stays h = absurd (no_fault goes_on)
+  moved_kept (stops stop) s t k c held here goes_on stays h = absurd (no_fault goes_on)
 
   all_moved : (es : List Event) (s t : Stage) (k : LinkId) (c : ConnectionState) → HaveSockets s → connection_at s.own k ≡ Some c → Run true mode s es t → StaysIn k es → moved_on t.wire k ≡ moved_on s.wire k ++ moved_in k es
   all_moved [] s t k c held here run stays = ap (λ (z : Stage). moved_on z.wire k) run ∙ sym (append-nil (moved_on s.wire k))

@@ -16,16 +16,16 @@ use Rattle.mr_connections.proofs.Changed.{get-changed}
 use Rattle.mr_loop.specs.declared.host.Host.{Host}
 use Rattle.mr_loop.specs.declared.told.Turn.{Turn}
 use Rattle.mr_loop.specs.Stage.{Stage, LoopState, connection_at, with_connections}
-use Rattle.mr_loop.specs.Hosts.{IsSame, stage_in}
+use Rattle.mr_loop.specs.Hosts.{IsSame, moment_in, stage_in}
 use Rattle.mr_loop.specs.Carrying.{SameFile}
 use Rattle.mr_loop.specs.Causes.{Dropped, Has, HasInput, IsBurdened, IsStuck}
 use Rattle.mr_loop.specs.Writing.{IsWritten, waiting_at, waiting_of}
 use Rattle.mr_loop.specs.Rows.{Breaks, IsDeaf, Writes, closes, is_deaf}
-use Rattle.mr_loop.specs.Counting.{CountsStill, counted}
+use Rattle.mr_loop.specs.Counting.{CountsStill, MomentState, counted}
 use Rattle.mr_loop.specs.Going.{Goes}
 use Rattle.mr_loop.specs.Quiet.{AllWait}
 use Rattle.mr_loop.proofs.Same.{same_here, same_on}
-use Rattle.mr_loop.proofs.Runs.{still_event, still_here, still_moded, still_on, still_one}
+use Rattle.mr_loop.proofs.Runs.{still_event, still_here, still_moded, still_on, still_one, supplies_same}
 use Rattle.mr_loop.proofs.Waiting.{itself}
 use Rattle.mr_loop.proofs.Touching.{here_put, touched_links}
 
@@ -153,7 +153,7 @@ burdened_stuck {tells} a o w socket link b written = elim written.all [
 -- ---- one call after another
 
 -- a part goes on where another ended, whose log syncs as before
-pub still_then : {tells : Bool} {m n : SyncMode} {old mid new : Turn} {a b c : Stage} → m ≡ n → CountsStill tells n old mid a b → CountsStill tells m mid new b c → CountsStill tells n old new a c
+pub still_then : {tells : Bool} {m n : SyncMode} {old mid new : MomentState} {a b c : Stage} → m ≡ n → CountsStill tells n old mid a b → CountsStill tells m mid new b c → CountsStill tells n old new a c
 still_then {tells} {m} {n} mode x y = still_on x (still_moded m n mode y)
 
 abbrev at_now : {A : Type 0} → A → MutBor A → MutBor A
@@ -161,34 +161,34 @@ at_now x m = record m { now = x }
 
 -- ---- writing in a loop
 
-module _ {W F S : Type 0} (tells : Bool) (links : W → Links LinkState) (failures waited : W → ℕ) (told : F → Option (List ℕ)) (synced : F → Option ℕ) (clock : S → ℤ) where
+module _ {W F S : Type 0} (tells : Bool) (links : W → Links LinkState) (failures waited : W → ℕ) (told : F → Option (List ℕ)) (synced : F → Option ℕ) (drawn : S → Option (List (List ℕ))) (clock : S → ℤ) where
   -- some connections were written to
   pub record HasWritten (a b : Host W F S) : Type 0 where
-    pub went : Goes tells links failures told synced a b
+    pub went : Goes tells links failures told synced drawn a b
     pub same : IsSame waited clock a b
     pub batch : b.own.now.batch ≡ []
-    pub turn : b.moment.turn ≡ a.moment.turn
+    pub moment : moment_in drawn b ≡ moment_in drawn a
     pub core : b.node.now.core ≡ a.node.now.core
     pub quiet : AllWait a.node.now → AllWait b.node.now
 
   -- .. or one was, which is still there as it was
   pub record WritesOn (socket link : LinkId) (a b : Host W F S) : Type 0 where
-    pub went : Goes tells links failures told synced a b
+    pub went : Goes tells links failures told synced drawn a b
     pub same : IsSame waited clock a b
     pub batch : b.own.now.batch ≡ []
-    pub turn : b.moment.turn ≡ a.moment.turn
+    pub moment : moment_in drawn b ≡ moment_in drawn a
     pub node : b.node.now ≡ a.node.now
     pub has : HasLink b.own.now.connections socket link
 
   pub written_first : (a : Host W F S) → a.own.now.batch ≡ [] → HasWritten a a
-  written_first a filed = record { went = still_here a.moment.turn _; same = same_here a; batch = filed; turn = refl; core = refl; quiet = λ q. q }
+  written_first a filed = record { went = still_here (moment_in drawn a) _; same = same_here a; batch = filed; moment = refl; core = refl; quiet = λ q. q }
 
   pub written_on : (a b c : Host W F S) → HasWritten a b → HasWritten b c → HasWritten a c
   written_on a b c x y = record {
     went = still_then x.same.mode x.went y.went;
     same = same_on a b c x.same y.same;
     batch = y.batch;
-    turn = y.turn ∙ x.turn;
+    moment = y.moment ∙ x.moment;
     core = y.core ∙ x.core;
     quiet = λ q. y.quiet (x.quiet q);
   }
@@ -199,34 +199,34 @@ module _ {W F S : Type 0} (tells : Bool) (links : W → Links LinkState) (failur
 
   -- .. or closed
   pub record HasClosed (a b : Host W F S) : Type 0 where
-    pub went : Goes tells links failures told synced a b
+    pub went : Goes tells links failures told synced drawn a b
     pub same : IsSame waited clock a b
     pub batch : b.own.now.batch ≡ a.own.now.batch
-    pub turn : b.moment.turn ≡ a.moment.turn
+    pub moment : moment_in drawn b ≡ moment_in drawn a
     pub node : b.node.now ≡ a.node.now
 
   pub closed_first : (a : Host W F S) → HasClosed a a
-  closed_first a = record { went = still_here a.moment.turn _; same = same_here a; batch = refl; turn = refl; node = refl }
+  closed_first a = record { went = still_here (moment_in drawn a) _; same = same_here a; batch = refl; moment = refl; node = refl }
 
   pub closed_on : (a b c : Host W F S) (socket : LinkId) → HasClosed a b → connection_at b.own.now socket ≡ Some (with_waiting None [])
-      → Dropped socket None (stage_in links failures told synced b) (stage_in links failures told synced c) → c.moment.turn ≡ b.moment.turn → IsSame waited clock b c → HasClosed a c
-  closed_on a b c socket x here dropped turn same = record {
-    went = still_then x.same.mode x.went (still_one (closes socket) b.moment.turn c.moment.turn refl refl refl refl refl refl (record { has = record { is = here }; dropped = dropped }) turn);
+      → Dropped socket None (stage_in links failures told synced b) (stage_in links failures told synced c) → moment_in drawn c ≡ moment_in drawn b → IsSame waited clock b c → HasClosed a c
+  closed_on a b c socket x here dropped moment same = record {
+    went = still_then x.same.mode x.went (still_one (closes socket) (moment_in drawn b) (moment_in drawn c) refl refl refl refl refl refl refl (λ now ids. refl) (record { has = record { is = here }; dropped = dropped }) moment);
     same = same_on a b c x.same same;
     batch = dropped.batch ∙ x.batch;
-    turn = turn ∙ x.turn;
+    moment = moment ∙ x.moment;
     node = dropped.node ∙ x.node;
   }
 
   pub writes_first : (socket link : LinkId) (a : Host W F S) → a.own.now.batch ≡ [] → HasLink a.own.now.connections socket link → WritesOn socket link a a
-  writes_first socket link a filed has = record { went = still_here a.moment.turn _; same = same_here a; batch = filed; turn = refl; node = refl; has = has }
+  writes_first socket link a filed has = record { went = still_here (moment_in drawn a) _; same = same_here a; batch = filed; moment = refl; node = refl; has = has }
 
   pub writes_on : (socket link : LinkId) (a b c : Host W F S) → WritesOn socket link a b → WritesOn socket link b c → WritesOn socket link a c
   writes_on socket link a b c x y = record {
     went = still_then x.same.mode x.went y.went;
     same = same_on a b c x.same y.same;
     batch = y.batch;
-    turn = y.turn ∙ x.turn;
+    moment = y.moment ∙ x.moment;
     node = y.node ∙ x.node;
     has = y.has;
   }
@@ -236,10 +236,14 @@ module _ {W F S : Type 0} (tells : Bool) (links : W → Links LinkState) (failur
 abbrev deafened : Turn → Turn
 deafened turn = record turn { deaf = counted (turn.deaf + 1) }
 
-pub deaf_still : {tells : Bool} {mode : SyncMode} {s t : Stage} (socket link : LinkId) (old mid new : Turn) → mid ≡ old → new ≡ deafened mid → IsDeaf tells socket link s t → CountsStill tells mode old new s t
-deaf_still socket link old mid new same is h =
-    let all : new ≡ deafened old = is ∙ ap deafened same in
-    still_event (is_deaf socket link) old new refl refl h (ap (λ (x : Turn). x.steps) all) (ap (λ (x : Turn). x.done) all) (ap (λ (x : Turn). x.used) all) (ap (λ (x : Turn). x.deaf) all)
+pub deaf_still : {tells : Bool} {mode : SyncMode} {s t : Stage} (socket link : LinkId) (old mid new : MomentState) → mid ≡ old → new.turn ≡ deafened mid.turn → new.time ≡ mid.time → new.fresh ≡ mid.fresh → new.drawn ≡ mid.drawn → IsDeaf tells socket link s t
+    → CountsStill tells mode old new s t
+deaf_still socket link old mid new same is time fresh drawn h =
+    let all : new.turn ≡ deafened old.turn = is ∙ ap (λ (m : MomentState). deafened m.turn) same in
+    still_event (is_deaf socket link) old new refl refl h
+    (supplies_same (is_deaf socket link) old new (λ now ids. refl) (fresh ∙ ap (λ (m : MomentState). m.fresh) same) (drawn ∙ ap (λ (m : MomentState). m.drawn) same))
+    (time ∙ ap (λ (m : MomentState). m.time) same)
+    (ap (λ (x : Turn). x.steps) all) (ap (λ (x : Turn). x.done) all) (ap (λ (x : Turn). x.used) all) (ap (λ (x : Turn). x.deaf) all) (ap (λ (x : Turn). x.followed) all)
 
 -- the node and the connection are as they were before its bytes were written
 pub deaf_row : {tells : Bool} {s t : Stage} (socket link : LinkId) (a : NodeState) → s.node ≡ a → HasInput a link → IsWritten tells s.wire socket link s.own → IsBurdened s.node s.own socket link → Dropped socket (Some link) s t → IsDeaf tells socket link s t

@@ -10,19 +10,19 @@ use Rattle.mr_rows.specs.State.{IsNode, NodeState, end_of, room_of}
 use Rattle.mr_rows.specs.LinkRows.{Opens, Dials, Feeds, closed_at}
 use Rattle.mr_rows.specs.TimeRows.{TickRow}
 use Rattle.mr_node.specs.Calls.{IsClients, OpensNoMore, Unreads}
+use Rattle.mr_node.specs.Parts.{role_of}
 use Rattle.mr_node.specs.Steps.{Steps}
 use Rattle.mr_node.specs.declared.fault.NodeFault.{NodeFault}
 use Rattle.mr_node.specs.declared.fault.NodeFault.TheVariants as refusal
 use Rattle.mr_node.specs.declared.step.Step.{Step}
 use Rattle.mr_node.specs.declared.step.Step.TheVariants as step
 use Rattle.mr_wire.specs.Wire.{LinkState, ChangesLink, Connects}
+use Rattle.mr_unsent.specs.Limits.{most_unsent}
 use Rattle.mr_connections.specs.State.{ConnectionState, HasLink, begun, most_kept}
 use Rattle.mr_loop.specs.Carrying.{SameFile}
+use Rattle.mr_loop.specs.News.{is_client_end, news_of, place_of}
+use Rattle.mr_loop.specs.declared.followed.News.{News}
 use Rattle.mr_loop.specs.Stage.{Stage, LoopState, connection_at}
-
--- so many bytes may wait for a client before its next step
-abbrev pub most_unsent : ℕ
-most_unsent = 67108864
 
 -- ---- a connection
 
@@ -86,12 +86,17 @@ pub data TurnsOff (a b : NodeState) : Type 0 where
   opens_and_closes : (mid : NodeState) (link : LinkId) → Opens a link mid → b ≡ closed_at link mid → TurnsOff a b
   dials_and_closes : (mid : NodeState) (link : LinkId) (outs : OutsState) → Dials a link mid outs → b ≡ closed_at link mid → TurnsOff a b
 
--- why a node answers that it is stopped
-pub data Stopping (a b : NodeState) : Type 0 where
-  at_step : (link : LinkId) (given : Given) (fresh : List ℕ) → Stepped a link given fresh b (Err refusal.Stopped) → Stopping a b
-  -- it opened as many links as it may, or was down
-  at_open : OpensNoMore a b → Stopping a b
-  was_down : a.core.up ≡ false → b ≡ a → Stopping a b
+-- where a node answers that it is stopped
+pub data Stop : Type 0 where
+  stops_at_step : (link : LinkId) (given : Given) (fresh : List ℕ) → Stop
+  stops_at_open : Stop
+  was_down : Stop
+
+-- .. and why: at a step, or since it opened as many links as it may, or was down
+abbrev pub Stopping : Stop → NodeState → NodeState → Type 0
+Stopping (stops_at_step link given fresh) a b = Stepped a link given fresh b (Err refusal.Stopped)
+Stopping stops_at_open a b = OpensNoMore a b
+Stopping was_down a b = (a.core.up ≡ false) × (b ≡ a)
 
 -- ---- the wire
 
@@ -127,15 +132,17 @@ pub record Dropped (socket : LinkId) (link : Option LinkId) (s t : Stage) : Type
 
 -- a call on the node
 pub data Act : Type 0 where
-  at_step : (socket link : LinkId) (given : Given) (fresh : List ℕ) → Act
+  -- .. with what it came to between a replica and its master
+  at_step : (socket link : LinkId) (given : Given) (fresh : List ℕ) (news : Option News) → Act
   at_tick : (given : Given) → Act
   at_dial : (socket link : LinkId) → Act
 
 -- A step, of a connection on which no more waits than may.
-pub record StepsAt (socket link : LinkId) (given : Given) (fresh : List ℕ) (s t : Stage) (outs : OutsState) : Type 0 where
+pub record StepsAt (socket link : LinkId) (given : Given) (fresh : List ℕ) (news : Option News) (s t : Stage) (outs : OutsState) : Type 0 where
   pub has : HasLink s.own.connections socket link
   pub light : IsLight s.node s.own socket link
   pub stepped : Stepped s.node link given fresh t.node (Ok (step.Done outs))
+  pub news_are : news ≡ news_of (place_of (role_of s.node) (is_client_end (end_of s.node link))) (role_of t.node) outs
   pub same : t ≡ record s { node = t.node }
 
 -- Time passes.
@@ -160,6 +167,6 @@ pub record DialsAt (socket link : LinkId) (s t : Stage) (outs : OutsState) : Typ
 
 -- what a call makes of all, before its outs are carried out
 abbrev pub Calls : Act → Stage → Stage → OutsState → Type 0
-Calls (at_step socket link given fresh) s t outs = StepsAt socket link given fresh s t outs
+Calls (at_step socket link given fresh news) s t outs = StepsAt socket link given fresh news s t outs
 Calls (at_tick given) s t outs = TicksAt given s t outs
 Calls (at_dial socket link) s t outs = DialsAt socket link s t outs

@@ -1,22 +1,27 @@
--- How often a turn asks the node for a step, how often that uses something, how many fresh ids it takes, how many clients it gives up as deaf, how often time
--- passes in it, and whether it ends the program.
+-- How often a turn asks the node for a step, how often that uses something, how many fresh ids it takes, how many clients it gives up as deaf, what comes of
+-- following a master, how often time passes in it, and whether it ends the program; and that what its calls are given is the source's.
 use Rattle.std.specs.Prelude.{◌≡◌, ◌≢◌, ◌<◌, ◌≤◌, ℕ, ℤ, ◌+◌, ◌-◌, ◌/◌, ◌^◌, zero, suc, min, List, [], ◌∷◌, Bool, true, false, ◌||◌, Option, Some, None}
 use Rattle.mr_file.specs.declared.sync_mode.SyncMode.{SyncMode}
 use Rattle.mr_rows.specs.State.{NodeState}
 use Rattle.mr_rows.specs.TimeRows.{room_in}
 use Rattle.mr_data.specs.Due.{deletions}
+use Rattle.mr_source.specs.Ids.{with_ids}
 use Rattle.mr_loop.specs.declared.told.Turn.{Turn}
+use Rattle.mr_loop.specs.declared.followed.Followed.{Followed}
+use Rattle.mr_loop.specs.declared.followed.News.{News}
+use Rattle.mr_loop.specs.declared.followed.News.TheVariants as came
 use Rattle.mr_loop.specs.Stage.{Stage}
 use Rattle.mr_loop.specs.Causes.{Act, at_step, at_tick, at_dial}
 use Rattle.mr_loop.specs.Rows.{Event, Run, Went, acts, idles, is_deaf, is_refused, misses_tick, spills, tears}
+use Rattle.mr_loop.specs.Giving.{Supplies}
 
 abbrev pub steps_in_act : Act → ℕ
-steps_in_act (at_step socket link given fresh) = 1
+steps_in_act (at_step socket link given fresh news) = 1
 steps_in_act (at_tick given) = 0
 steps_in_act (at_dial socket link) = 0
 
 abbrev pub ticks_in_act : Act → ℕ
-ticks_in_act (at_step socket link given fresh) = 0
+ticks_in_act (at_step socket link given fresh news) = 0
 ticks_in_act (at_tick given) = 1
 ticks_in_act (at_dial socket link) = 0
 
@@ -50,6 +55,16 @@ abbrev pub deaf_by : Event → ℕ
 deaf_by (is_deaf socket link) = 1
 deaf_by _ = 0
 
+-- what it tells of a replica and its master
+abbrev pub news_in_act : Act → Option News
+news_in_act (at_step socket link given fresh news) = news
+news_in_act (at_tick given) = None
+news_in_act (at_dial socket link) = None
+
+abbrev pub news_by : Event → Option News
+news_by (acts act outs) = news_in_act act
+news_by _ = None
+
 -- how many calls of `Node::tick` it tells of
 abbrev pub ticks_by : Event → ℕ
 ticks_by (acts act outs) = ticks_in_act act
@@ -62,22 +77,6 @@ ticks_by _ = 0
 abbrev pub sum_in : (Event → ℕ) → List Event → ℕ
 sum_in f [] = 0
 sum_in f (e ∷ es) = f e + sum_in f es
-
--- a tick is made at this moment
-abbrev pub IsActAt : ℤ → Act → Type 0
-IsActAt now (at_step socket link given fresh) = Unit {0}
-IsActAt now (at_tick given) = given.now ≡ now
-IsActAt now (at_dial socket link) = Unit {0}
-
-abbrev pub IsTickAt : ℤ → Event → Type 0
-IsTickAt now (acts act outs) = IsActAt now act
-IsTickAt now (misses_tick given) = given.now ≡ now
-IsTickAt now _ = Unit {0}
-
--- .. and so is each of these events that is one
-abbrev pub TickAt : ℤ → List Event → Type 0
-TickAt now [] = Unit {0}
-TickAt now (e ∷ es) = IsTickAt now e × TickAt now es
 
 -- A tick at this moment would delete: the node is a master, and the first of its expired keys has room before the offset's limit.
 pub record IsTickDue (now : ℤ) (a : NodeState) : Type 0 where
@@ -107,38 +106,77 @@ abbrev pub raised : ℕ → ℕ → ℕ
 raised zero n = n
 raised (suc k) n = raised k (counted (n + 1))
 
+-- nothing came of following a master
+abbrev pub no_news : Followed
+no_news = record { greeted = 0; announced = 0; copied = 0; bytes = 0; continued = 0; refused = 0; spoiled = 0 }
+
+-- what came of it, with one more
+abbrev pub heard : News → Followed → Followed
+heard came.Greeted f = record f { greeted = counted (f.greeted + 1) }
+heard came.Announced f = record f { announced = counted (f.announced + 1) }
+heard (came.Copied bytes) f = record f { copied = counted (f.copied + 1); bytes = counted (f.bytes + bytes) }
+heard came.Continued f = record f { continued = counted (f.continued + 1) }
+heard came.Refused f = record f { refused = counted (f.refused + 1) }
+heard came.Spoiled f = record f { spoiled = counted (f.spoiled + 1) }
+
+-- .. if there is one
+abbrev pub heard_if : Option News → Followed → Followed
+heard_if None f = f
+heard_if (Some n) f = heard n f
+
+-- .. behind events one after another
+abbrev pub followed_by : List Event → Followed → Followed
+followed_by [] f = f
+followed_by (e ∷ es) f = followed_by es (heard_if (news_by e) f)
+
+-- nothing is counted yet
+abbrev pub nothing_counted : Turn
+nothing_counted = record { steps = 0; done = 0; used = 0; deaf = 0; halted = false; followed = no_news }
+
+-- A turn on its way: its moment, the id that the next step is given, the ids that the source gave, of one that tells them, and what was counted.
+pub record MomentState : Type 0 where
+  pub time : ℤ
+  pub fresh : List ℕ
+  pub drawn : Option (List (List ℕ))
+  pub turn : Turn
+
 module _ (tells : Bool) (mode : SyncMode) where
-  -- Some events behind each of which the turn goes on, and the counts of a turn went on by what they come to.
-  pub record CountsOn (old new : Turn) (s t : Stage) : Type 0 where
+  -- Some events behind each of which the turn goes on, with what its source gives, and the counts of a turn went on by what they come to.
+  pub record CountsOn (old new : MomentState) (s t : Stage) : Type 0 where
     pub went : Went tells mode s t
-    pub steps_are : new.steps ≡ raised (sum_in calls_by went.events) old.steps
-    pub done_are : new.done ≡ raised (sum_in uses_by went.events) old.done
-    pub used_are : new.used ≡ raised (sum_in ids_by went.events) old.used
-    pub deaf_are : new.deaf ≡ raised (sum_in deaf_by went.events) old.deaf
+    pub given : Supplies old.time (old.fresh ∷ []) old.drawn went.events (new.fresh ∷ []) new.drawn
+    pub time_stays : new.time ≡ old.time
+    pub steps_are : new.turn.steps ≡ raised (sum_in calls_by went.events) old.turn.steps
+    pub done_are : new.turn.done ≡ raised (sum_in uses_by went.events) old.turn.done
+    pub used_are : new.turn.used ≡ raised (sum_in ids_by went.events) old.turn.used
+    pub deaf_are : new.turn.deaf ≡ raised (sum_in deaf_by went.events) old.turn.deaf
+    pub followed_are : new.turn.followed ≡ followed_by went.events old.turn.followed
 
   -- .. without a tick
-  pub record CountsStill (old new : Turn) (s t : Stage) : Type 0 where
+  pub record CountsStill (old new : MomentState) (s t : Stage) : Type 0 where
     pub counts : CountsOn old new s t
     pub no_tick : sum_in ticks_by counts.went.events ≡ 0
 
-  -- So many ticks at this moment, and no step.
-  pub record Passes (now : ℤ) (count : ℕ) (old new : Turn) (s t : Stage) : Type 0 where
+  -- So many ticks, and no step.
+  pub record Passes (count : ℕ) (old new : MomentState) (s t : Stage) : Type 0 where
     pub counts : CountsOn old new s t
-    pub done : new.done ≡ old.done
+    pub done : new.turn.done ≡ old.turn.done
     pub ticked : sum_in ticks_by counts.went.events ≡ count
-    pub at : TickAt now counts.went.events
 
-  -- What a turn at this moment tells is what its events come to, and whether a client asked that the program end.
-  pub record TellsOf (now : ℤ) (turn : Turn) (s t : Stage) : Type 0 where
+  -- What a turn at this moment tells is what its events come to, and whether a client asked that the program end. Of the ids that its source gave before, these
+  -- weren't taken; and it had given those, and has given these, where it tells them.
+  pub record TellsOf (now : ℤ) (unused : List (List ℕ)) (drawn after : Option (List (List ℕ))) (turn : Turn) (s t : Stage) : Type 0 where
     pub went : Went tells mode s t
+    pub left : List (List ℕ)
+    pub given : Supplies now unused drawn went.events left after
     pub steps_are : turn.steps ≡ counted (sum_in calls_by went.events)
     pub done_are : turn.done ≡ counted (sum_in uses_by went.events)
     pub used_are : turn.used ≡ counted (sum_in ids_by went.events)
     pub deaf_are : turn.deaf ≡ counted (sum_in deaf_by went.events)
-    -- time passes, and the turn has one moment
+    pub followed_are : turn.followed ≡ followed_by went.events no_news
+    -- time passes
     pub ticked : 0 < sum_in ticks_by went.events
     pub few : sum_in ticks_by went.events ≤ most_ticks turn.done
-    pub at : TickAt now went.events
     -- **Ticks keep up**: where another would still delete, so many were made, and the next turn goes on without waiting
     pub keeps_up : IsTickDue now t.node → (sum_in ticks_by went.events ≡ most_ticks turn.done) × (t.own.hurries ≡ true)
     pub halted : turn.halted ≡ t.own.halted
@@ -151,3 +189,8 @@ KnowsShutdown = (tells : Bool) (mode : SyncMode) (s t : Stage) (es : List Event)
 abbrev pub taken : Option (List ℕ) → Turn → Turn
 taken None turn = turn
 taken (Some id) turn = record turn { used = counted (turn.used + 1) }
+
+-- .. behind which the source gave another, or none
+abbrev pub Renewed : Option (List ℕ) → MomentState → MomentState → Type 0
+Renewed None old new = new ≡ old
+Renewed (Some id) old new = new ≡ record { time = old.time; fresh = new.fresh; drawn = with_ids (new.fresh ∷ []) old.drawn; turn = taken (Some id) old.turn }

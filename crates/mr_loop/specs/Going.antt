@@ -5,44 +5,44 @@ use Rattle.mr_wire.specs.Wire.{LinkState}
 use Rattle.mr_loop.specs.declared.fault.LoopFault.{LoopFault}
 use Rattle.mr_loop.specs.declared.host.Host.{Host}
 use Rattle.mr_loop.specs.declared.told.Turn.{Turn}
-use Rattle.mr_loop.specs.Hosts.{stage_in}
+use Rattle.mr_loop.specs.Hosts.{moment_in, stage_in}
 use Rattle.mr_loop.specs.Counting.{CountsStill, IsTickDue, Passes}
-use Rattle.mr_loop.specs.Outcomes.{Broke, Does, DoesTelling}
+use Rattle.mr_loop.specs.Outcomes.{HasBroken, Does, DoesTelling}
 
-module _ {W F S : Type 0} (tells : Bool) (links : W → Links LinkState) (failures : W → ℕ) (told : F → Option (List ℕ)) (synced : F → Option ℕ) where
+module _ {W F S : Type 0} (tells : Bool) (links : W → Links LinkState) (failures : W → ℕ) (told : F → Option (List ℕ)) (synced : F → Option ℕ) (drawn : S → Option (List (List ℕ))) where
   -- some events, which are counted, and no tick
   abbrev pub Goes : Host W F S → Host W F S → Type 0
-  Goes a b = CountsStill tells a.log.now.mode a.moment.turn b.moment.turn (stage_in links failures told synced a) (stage_in links failures told synced b)
+  Goes a b = CountsStill tells a.log.now.mode (moment_in drawn a) (moment_in drawn b) (stage_in links failures told synced a) (stage_in links failures told synced b)
 
   -- .. and what comes of it by what is answered
   abbrev pub GoesAs : {A : Type 0} → Result A LoopFault → Host W F S → Host W F S → Type 0
-  GoesAs result a b = Does tells a.log.now.mode result a.moment.turn b.moment.turn (stage_in links failures told synced a) (stage_in links failures told synced b)
+  GoesAs result a b = Does tells a.log.now.mode result (moment_in drawn a) (moment_in drawn b) (stage_in links failures told synced a) (stage_in links failures told synced b)
 
   -- .. where the wire had these links before it opened one, and had failed so often
   abbrev pub GoesFrom : {A : Type 0} → Links LinkState → ℕ → Result A LoopFault → Host W F S → Host W F S → Type 0
-  GoesFrom before failed result a b = Does tells a.log.now.mode result a.moment.turn b.moment.turn (record (stage_in links failures told synced a) { wire = before; failed = failed }) (stage_in links failures told synced b)
+  GoesFrom before failed result a b = Does tells a.log.now.mode result (moment_in drawn a) (moment_in drawn b) (record (stage_in links failures told synced a) { wire = before; failed = failed }) (stage_in links failures told synced b)
 
   -- .. that tells what it counted
   abbrev pub GoesTelling : Result Turn LoopFault → Host W F S → Host W F S → Type 0
-  GoesTelling result a b = DoesTelling tells a.log.now.mode a.moment.time result (stage_in links failures told synced a) (stage_in links failures told synced b)
+  GoesTelling result a b = DoesTelling tells a.log.now.mode result (moment_in drawn a) (moment_in drawn b) (stage_in links failures told synced a) (stage_in links failures told synced b)
 
   -- nothing that a turn acts on changes
   abbrev pub StaysAs : Host W F S → Host W F S → Type 0
-  StaysAs a b = (stage_in links failures told synced b ≡ stage_in links failures told synced a) × (b.moment.turn ≡ a.moment.turn)
+  StaysAs a b = (stage_in links failures told synced b ≡ stage_in links failures told synced a) × (moment_in drawn b ≡ moment_in drawn a)
 
   -- One tick was made, and where another would still delete, it is answered so.
   abbrev pub TicksAs : Result Bool LoopFault → Host W F S → Host W F S → Type 0
-  TicksAs (Ok more) a b = Passes tells a.log.now.mode a.moment.time 1 a.moment.turn b.moment.turn (stage_in links failures told synced a) (stage_in links failures told synced b) × (IsTickDue a.moment.time b.node.now → more ≡ true)
-  TicksAs (Err why) a b = Broke tells a.log.now.mode why (stage_in links failures told synced a) (stage_in links failures told synced b)
+  TicksAs (Ok more) a b = Passes tells a.log.now.mode 1 (moment_in drawn a) (moment_in drawn b) (stage_in links failures told synced a) (stage_in links failures told synced b) × (IsTickDue a.moment.time b.node.now → more ≡ true)
+  TicksAs (Err why) a b = HasBroken tells a.log.now.mode why (moment_in drawn a) (moment_in drawn b) (stage_in links failures told synced a) (stage_in links failures told synced b)
 
   -- Time passed: some ticks were made, so many at most, and so many where another would still delete: then it is answered so.
   pub record PassesOn (more : Bool) (most : ℕ) (a b : Host W F S) : Type 0 where
     pub count : ℕ
-    pub went : Passes tells a.log.now.mode a.moment.time count a.moment.turn b.moment.turn (stage_in links failures told synced a) (stage_in links failures told synced b)
+    pub went : Passes tells a.log.now.mode count (moment_in drawn a) (moment_in drawn b) (stage_in links failures told synced a) (stage_in links failures told synced b)
     pub some : 0 < count
     pub few : count ≤ most
     pub keeps_up : IsTickDue a.moment.time b.node.now → (count ≡ most) × (more ≡ true)
 
   abbrev pub PassesAs : Result Bool LoopFault → ℕ → Host W F S → Host W F S → Type 0
   PassesAs (Ok more) most a b = PassesOn more most a b
-  PassesAs (Err why) most a b = Broke tells a.log.now.mode why (stage_in links failures told synced a) (stage_in links failures told synced b)
+  PassesAs (Err why) most a b = HasBroken tells a.log.now.mode why (moment_in drawn a) (moment_in drawn b) (stage_in links failures told synced a) (stage_in links failures told synced b)

@@ -4,11 +4,16 @@ use Rattle.mr_links.specs.Links.{Links}
 use Rattle.mr_wire.specs.Wire.{LinkState}
 use Rattle.mr_loop.specs.declared.host.Host.{Host}
 use Rattle.mr_loop.specs.Stage.{Stage, stage}
+use Rattle.mr_loop.specs.Counting.{MomentState}
 
 module _ {W F S : Type 0} where
   -- the stage: of a wire its links and how often it failed, and of a file its bytes and how many are synced
   abbrev pub stage_in : (W → Links LinkState) → (W → ℕ) → (F → Option (List ℕ)) → (F → Option ℕ) → Host W F S → Stage
   stage_in links failures told synced h = stage h.node.now h.own.now (links h.wire.now) (failures h.wire.now) (told h.log.now.file) (synced h.log.now.file)
+
+  -- its moment, with the ids that the source tells
+  abbrev pub moment_in : (S → Option (List (List ℕ))) → Host W F S → MomentState
+  moment_in drawn h = record { time = h.moment.time; fresh = h.moment.fresh; drawn = drawn h.source.now; turn = h.moment.turn }
 
   -- The values that it borrowed are those that it borrows, in whatever state. The moment of the turn and how the file is synced stay; the wire isn't waited on
   -- again, and the source isn't asked for the time again.

@@ -1,9 +1,12 @@
 pub mod Stage
-pub mod Hosts
 pub mod Carrying
+pub mod News
 pub mod Causes
+pub mod Hearing
 pub mod Rows
+pub mod Giving
 pub mod Counting
+pub mod Hosts
 pub mod Outcomes
 pub mod Quiet
 pub mod Writing

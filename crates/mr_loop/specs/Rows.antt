@@ -21,7 +21,7 @@ use Rattle.mr_loop.specs.declared.fault.LoopFault.TheVariants as fault
 use Rattle.mr_node.specs.Calls.{FeedRow, OpensNoMore}
 use Rattle.mr_loop.specs.Stage.{Lacks, Stage, committed, connection_at, lacking, with_connections}
 use Rattle.mr_loop.specs.Carrying.{Carried, SameFile, Spilled, Torn}
-use Rattle.mr_loop.specs.Causes.{Act, Calls, Dropped, Fed, Has, HasInput, HasRoom, IsBurdened, IsRead, IsStuck, Stepped, Stopping, Touches, TurnsOff}
+use Rattle.mr_loop.specs.Causes.{Act, Calls, Dropped, Fed, Has, HasInput, HasRoom, IsBurdened, IsRead, IsStuck, Stepped, Stop, Stopping, Touches, TurnsOff}
 
 -- what happens in a turn
 pub data Event : Type 0 where
@@ -70,14 +70,14 @@ pub data Event : Type 0 where
   -- whether the next turn goes on without waiting is settled
   settles : (hurries : Bool) → Event
   -- the node stopped
-  stops : Event
+  stops : (stop : Stop) → Event
 
 -- The fault that an event is told as. Behind one that is told as none the turn goes on, and behind any other it does nothing more.
 abbrev pub fault_of : Event → Option LoopFault
 fault_of (spills act outs) = Some fault.Stopped
 fault_of (tears act outs) = Some fault.File
 fault_of fails = Some fault.File
-fault_of stops = Some fault.Stopped
+fault_of (stops stop) = Some fault.Stopped
 fault_of _ = None
 
 -- The wire says no less often behind a call that it failed.
@@ -268,8 +268,8 @@ pub record Settles (hurries : Bool) (s t : Stage) : Type 0 where
   pub is : t ≡ record s { own = record s.own { hurries = hurries } }
 
 -- The node is stopped from here on, or was.
-pub record IsStopped (s t : Stage) : Type 0 where
-  pub why : Stopping s.node t.node
+pub record IsStopped (stop : Stop) (s t : Stage) : Type 0 where
+  pub why : Stopping stop s.node t.node
   pub own : t.own ≡ s.own
   pub wire : t.wire ≡ s.wire
   pub failed : t.failed ≡ s.failed
@@ -304,7 +304,7 @@ module _ (tells : Bool) (mode : SyncMode) where
   Happens s (misses_tick given) t = MissesTick s t
   Happens s misses_dial t = TurnsAway s t
   Happens s (settles hurries) t = Settles hurries s t
-  Happens s stops t = IsStopped s t
+  Happens s (stops stop) t = IsStopped stop s t
 
   -- these events one after another, behind each of which the turn goes on
   abbrev pub Run : Stage → List Event → Stage → Type 0

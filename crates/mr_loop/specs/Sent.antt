@@ -1,5 +1,5 @@
 -- What the events of a turn come to: on one connection, and for the file.
-use Rattle.std.specs.Prelude.{◌≡◌, ℕ, List, [], ◌∷◌, ◌++◌, Bool, true, false, Option, Some, None, if◌then◌else◌, ◌||◌}
+use Rattle.std.specs.Prelude.{◌≡◌, ℕ, ℤ, List, [], ◌∷◌, ◌++◌, Bool, true, false, Option, Some, None, if◌then◌else◌, ◌||◌}
 use Rattle.std.specs.Ordering.{eq_by_cmp}
 use Rattle.std.specs.FinMap as map
 use Rattle.mr_links.specs.LinkId.{id_cmp}
@@ -179,4 +179,4 @@ pub record IsSilent (a b : Links LinkState) : Type 0 where
 
 -- **Behind a fault nothing is sent.** Each link of the wire is as it was before the last event.
 abbrev pub IsSilentBehindFaults : Type 0
-IsSilentBehindFaults = (tells : Bool) (mode : SyncMode) (why : LoopFault) (s t : Stage) (b : BreaksDown tells mode why s t) → IsSilent b.broke.before.wire t.wire
+IsSilentBehindFaults = (tells : Bool) (mode : SyncMode) (now : ℤ) (unused : List (List ℕ)) (drawn after : Option (List (List ℕ))) (why : LoopFault) (s t : Stage) (b : BreaksDown tells mode now unused drawn after why s t) → IsSilent b.broke.before.wire t.wire

@@ -6,8 +6,8 @@ ghost use Rattle.mr_connections.specs.State.{parted};
 ghost use Rattle.mr_loop.specs.Stage.{with_connections};
 ghost use Rattle.mr_outs.specs.Listing.{out_view};
 ghost use Rattle.mr_loop.specs.Carrying.{CarriesAs, CarriesOneAs};
-ghost use Rattle.mr_loop.specs.Counting.{taken};
-ghost use Rattle.mr_loop.specs.Hosts.{IsSame, stage_in};
+ghost use Rattle.mr_loop.specs.Counting.{Renewed};
+ghost use Rattle.mr_loop.specs.Hosts.{IsSame, moment_in, stage_in};
 
 use crate::fault::LoopFault;
 use crate::host::Host;
@@ -22,7 +22,8 @@ impl<W: Wire, F: LogFile, S: Source> Host<'_, '_, W, F, S> {
     /// What a call on the node gave out is carried out. Where the node took the fresh id, another is drawn.
     pub(crate) fn take(&mut self, outs: Outs) -> Result<(), LoopFault>
         ensures carried { CarriesAs result (outs_of outs) (stage_in W.links W.failures F.told F.synced self.old) (stage_in W.links W.failures F.told F.synced self.new) }
-        ensures turn { OnOk result (self.new.moment.turn ≡ taken outs.used self.old.moment.turn) }
+        ensures moment { OnOk result (Renewed outs.used (moment_in S.drawn self.old) (moment_in S.drawn self.new)) }
+        ensures kept { OnErr result (moment_in S.drawn self.new ≡ moment_in S.drawn self.old) }
         ensures same { IsSame W.waited S.clock self.old self.new }
         ensures device { IsErrOf result LoopFault.File → self.new.log.now.broken ≡ true }
     {
@@ -40,7 +41,7 @@ impl<W: Wire, F: LogFile, S: Source> Host<'_, '_, W, F, S> {
     /// All outs are carried out, one after another.
     fn carry_out(&mut self, outs: &Outs) -> Result<(), LoopFault>
         ensures carried { CarriesAs result (outs_of outs.now) (stage_in W.links W.failures F.told F.synced self.old) (stage_in W.links W.failures F.told F.synced self.new) }
-        ensures turn { self.new.moment.turn ≡ self.old.moment.turn }
+        ensures moment { moment_in S.drawn self.new ≡ moment_in S.drawn self.old }
         ensures same { IsSame W.waited S.clock self.old self.new }
         ensures device { IsErrOf result LoopFault.File → self.new.log.now.broken ≡ true }
     {
@@ -53,7 +54,7 @@ impl<W: Wire, F: LogFile, S: Source> Host<'_, '_, W, F, S> {
     /// One of them is carried out.
     fn carry(&mut self, out: Out<'_>) -> Result<(), LoopFault>
         ensures carried { CarriesOneAs result (out_view out.entry) (stage_in W.links W.failures F.told F.synced self.old) (stage_in W.links W.failures F.told F.synced self.new) }
-        ensures turn { self.new.moment.turn ≡ self.old.moment.turn }
+        ensures moment { moment_in S.drawn self.new ≡ moment_in S.drawn self.old }
         ensures same { IsSame W.waited S.clock self.old self.new }
         ensures device { IsErrOf result LoopFault.File → self.new.log.now.broken ≡ true }
     {
@@ -84,7 +85,7 @@ impl<W: Wire, F: LogFile, S: Source> Host<'_, '_, W, F, S> {
         ensures own { self.new.own.now ≡ with_connections (parted link) self.old.own.now }
         ensures wire { self.new.wire.now ≡ self.old.wire.now }
         ensures log { self.new.log.now ≡ self.old.log.now }
-        ensures turn { self.new.moment.turn ≡ self.old.moment.turn }
+        ensures moment { moment_in S.drawn self.new ≡ moment_in S.drawn self.old }
         ensures same { IsSame W.waited S.clock self.old self.new }
     {
         self.node.close(link);
@@ -94,7 +95,7 @@ impl<W: Wire, F: LogFile, S: Source> Host<'_, '_, W, F, S> {
     /// The file is replaced at once. The new one has all effects so far, so that nothing waits for it any more.
     fn rewrite(&mut self, whole: &[u8]) -> Result<(), LoopFault>
         ensures carried { CarriesOneAs result (replace whole.now) (stage_in W.links W.failures F.told F.synced self.old) (stage_in W.links W.failures F.told F.synced self.new) }
-        ensures turn { self.new.moment.turn ≡ self.old.moment.turn }
+        ensures moment { moment_in S.drawn self.new ≡ moment_in S.drawn self.old }
         ensures same { IsSame W.waited S.clock self.old self.new }
         ensures device { IsErrOf result LoopFault.File → self.new.log.now.broken ≡ true }
     {

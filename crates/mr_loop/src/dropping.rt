@@ -1,7 +1,7 @@
 // Connections that end.
 ghost use Rattle.std.specs.Prelude.{◌≡◌};
 ghost use Rattle.mr_loop.specs.Causes.{Dropped};
-ghost use Rattle.mr_loop.specs.Hosts.{IsSame, stage_in};
+ghost use Rattle.mr_loop.specs.Hosts.{IsSame, moment_in, stage_in};
 
 use crate::host::Host;
 use mr_file::LogFile;
@@ -13,7 +13,7 @@ impl<W: Wire, F: LogFile, S: Source> Host<'_, '_, W, F, S> {
     /// Closes a connection, at the node where that has an end of it, and on the wire. What waits is dropped.
     pub(crate) fn drop_connection(&mut self, socket: LinkId, link: Option<LinkId>)
         ensures dropped { Dropped socket link (stage_in W.links W.failures F.told F.synced self.old) (stage_in W.links W.failures F.told F.synced self.new) }
-        ensures turn { self.new.moment.turn ≡ self.old.moment.turn }
+        ensures moment { moment_in S.drawn self.new ≡ moment_in S.drawn self.old }
         ensures same { IsSame W.waited S.clock self.old self.new }
     {
         if let Some(link) = link {

@@ -1,7 +1,7 @@
 // What waits for the file.
 ghost use Rattle.std.specs.Prelude.{◌≡◌, [], OnOk, IsErrOf, true};
 ghost use Rattle.mr_loop.specs.Going.{GoesAs};
-ghost use Rattle.mr_loop.specs.Hosts.{IsSame};
+ghost use Rattle.mr_loop.specs.Hosts.{IsSame, moment_in};
 ghost use Rattle.mr_loop.specs.Stage.{committed};
 
 use crate::fault::LoopFault;
@@ -13,10 +13,10 @@ use mr_wire::Wire;
 impl<W: Wire, F: LogFile, S: Source> Host<'_, '_, W, F, S> {
     /// Appends what waits for the file, and syncs it with `Always`. Where nothing waits, no call is made.
     pub(crate) fn commit(&mut self) -> Result<(), LoopFault>
-        ensures went { GoesAs W.tells W.links W.failures F.told F.synced result self.old self.new }
+        ensures went { GoesAs W.tells W.links W.failures F.told F.synced S.drawn result self.old self.new }
         ensures all { OnOk result (self.new.own.now ≡ committed self.old.own.now) }
         ensures node { self.new.node.now ≡ self.old.node.now }
-        ensures turn { self.new.moment.turn ≡ self.old.moment.turn }
+        ensures moment { moment_in S.drawn self.new ≡ moment_in S.drawn self.old }
         ensures same { IsSame W.waited S.clock self.old self.new }
         ensures device { IsErrOf result LoopFault.File → self.new.log.now.broken ≡ true }
     {

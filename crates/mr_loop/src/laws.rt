@@ -1,5 +1,8 @@
 // What holds of the definitions.
 ghost use Rattle.mr_loop.specs.Counting.{KnowsShutdown};
+ghost use Rattle.mr_loop.specs.Giving.{TakesEachOnce};
+ghost use Rattle.mr_loop.specs.Hearing.{TellsNothingElse, TellsWhatCame};
+ghost use Rattle.mr_loop.specs.Outcomes.{TurnsTakeEachOnce};
 ghost use Rattle.mr_loop.specs.Sent.{GoesOutInOrder, HaveSocketsAlways, HaveSocketsFirst, IsSentOnceFiled, IsSilentBehindFaults, WireHasWhatIsSent};
 
 /// What was moved on a connection is a beginning of what waited there and of what the node sent on its link, in order; the rest waits.
@@ -32,4 +35,17 @@ pub fn the_wire_has_what_is_sent()
 /// The loop holds that a client said SHUTDOWN where one did at a step, or where it held so before.
 pub fn shutdown_is_known()
     ensures { KnowsShutdown }
+{}
+
+/// Calls that are given ids one after another take them in their order, each once, and the others are left. Of the ids that a source
+/// that tells them gave in many turns, those that they took are some, in their order.
+pub fn ids_are_taken_once()
+    ensures calls { TakesEachOnce }
+    ensures turns { TurnsTakeEachOnce }
+{}
+
+/// A step at the link to the master is counted as what the node's follower made of it, and one at another link isn't counted as such.
+pub fn what_came_is_counted()
+    ensures came { TellsWhatCame }
+    ensures nothing { TellsNothingElse }
 {}

@@ -7,6 +7,7 @@ mod dialing;
 mod dropping;
 mod fault;
 mod filing;
+mod followed;
 mod host;
 mod laws;
 mod links;
@@ -20,9 +21,11 @@ mod turning;
 mod writing;
 
 pub use fault::LoopFault;
+pub use followed::Followed;
 pub use laws::{
-    connections_have_sockets, nothing_is_sent_behind_a_fault, shutdown_is_known,
-    the_wire_has_what_is_sent, what_is_sent_goes_out_in_order, what_is_sent_is_filed,
+    connections_have_sockets, ids_are_taken_once, nothing_is_sent_behind_a_fault,
+    shutdown_is_known, the_wire_has_what_is_sent, what_came_is_counted,
+    what_is_sent_goes_out_in_order, what_is_sent_is_filed,
 };
 pub use links::Links;
 pub use serving::serve;

@@ -17,6 +17,9 @@ const LONGEST_WAIT: u64 = 100;
 /// So many milliseconds pass before a master that was dialled is dialled again, while the clock moves.
 const REDIAL_AFTER: i64 = 100;
 
+/// More room for what waits for the file isn't kept: as many bytes as a turn reads of one connection.
+const MOST_ROOM: usize = 4_194_304;
+
 /// The connections of a loop, and the texts of groups that aren't in its file yet.
 #[derive(Drop)]
 pub struct Links {
@@ -164,11 +167,15 @@ impl Links {
         self.batch.as_slice()
     }
 
-    /// All of it is in the file.
+    /// All of it is in the file. Much room is given back.
     pub(crate) fn clear_batch(&mut self)
         ensures { self.new ≡ committed self.old }
     {
-        self.batch.clear();
+        if self.batch.capacity() > MOST_ROOM {
+            self.batch = Vec::new(self.alloc);
+        } else {
+            self.batch.clear();
+        }
     }
 
     /// Puts texts behind what waits for the file.

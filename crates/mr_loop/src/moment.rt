@@ -1,8 +1,10 @@
 // What the steps of a turn are given, and what was counted in it so far.
-ghost use Rattle.std.specs.Prelude.{◌≡◌, ◌+◌, false};
+ghost use Rattle.std.specs.Prelude.{◌≡◌, ◌∷◌, ◌+◌, []};
 ghost use Rattle.mr_data.specs.Given.{IsMoment};
-ghost use Rattle.mr_loop.specs.Counting.{counted};
+ghost use Rattle.mr_source.specs.Ids.{with_ids};
+ghost use Rattle.mr_loop.specs.Counting.{counted, heard_if, nothing_counted};
 
+use crate::followed::News;
 use crate::told::Turn;
 use mr_data::Given;
 use mr_repl::ReplId;
@@ -20,8 +22,9 @@ pub(crate) struct Moment {
 impl Moment {
     /// A turn begins: nothing is counted yet.
     pub(crate) fn begun<S: Source>(source: &mut S) -> Moment
-        ensures turn { result.turn ≡ record { steps = 0; done = 0; used = 0; deaf = 0; halted = false } }
+        ensures turn { result.turn ≡ nothing_counted }
         ensures time { result.time ≡ S.clock source.new }
+        ensures drawn { S.drawn source.new ≡ with_ids (result.fresh ∷ []) (S.drawn source.old) }
     {
         let fresh = source.id();
         let time = source.now();
@@ -30,7 +33,9 @@ impl Moment {
     }
 
     /// The id that the next step may take.
-    pub(crate) fn fresh(&self) -> ReplId {
+    pub(crate) fn fresh(&self) -> ReplId
+        ensures { result ≡ self.now.fresh }
+    {
         self.fresh
     }
 
@@ -62,6 +67,7 @@ impl Moment {
     pub(crate) fn renew(&mut self, fresh: ReplId)
         ensures turn { self.new.turn ≡ record self.old.turn { used = counted (self.old.turn.used + 1) } }
         ensures time { self.new.time ≡ self.old.time }
+        ensures fresh { self.new.fresh ≡ fresh }
     {
         self.turn.count_id();
         self.fresh = fresh;
@@ -71,6 +77,7 @@ impl Moment {
     pub(crate) fn count_step(&mut self)
         ensures turn { self.new.turn ≡ record self.old.turn { steps = counted (self.old.turn.steps + 1) } }
         ensures time { self.new.time ≡ self.old.time }
+        ensures fresh { self.new.fresh ≡ self.old.fresh }
     {
         self.turn.count_step();
     }
@@ -79,14 +86,25 @@ impl Moment {
     pub(crate) fn count_use(&mut self)
         ensures turn { self.new.turn ≡ record self.old.turn { done = counted (self.old.turn.done + 1) } }
         ensures time { self.new.time ≡ self.old.time }
+        ensures fresh { self.new.fresh ≡ self.old.fresh }
     {
         self.turn.count_use();
+    }
+
+    /// Counts what a step came to between a replica and its master, if there is something.
+    pub(crate) fn hear(&mut self, news: Option<News>)
+        ensures turn { self.new.turn ≡ record self.old.turn { followed = heard_if news self.old.turn.followed } }
+        ensures time { self.new.time ≡ self.old.time }
+        ensures fresh { self.new.fresh ≡ self.old.fresh }
+    {
+        self.turn.hear(news);
     }
 
     /// Counts a client that is given up since it left too much unread.
     pub(crate) fn count_deaf(&mut self)
         ensures turn { self.new.turn ≡ record self.old.turn { deaf = counted (self.old.turn.deaf + 1) } }
         ensures time { self.new.time ≡ self.old.time }
+        ensures fresh { self.new.fresh ≡ self.old.fresh }
     {
         self.turn.count_deaf();
     }

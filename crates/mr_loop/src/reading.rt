@@ -15,7 +15,7 @@ use mr_wire::{Moved, Wire};
 impl<W: Wire, F: LogFile, S: Source> Host<'_, '_, W, F, S> {
     /// Serves those in this turn whose sockets the wire names, in its order.
     pub(crate) fn gather(&mut self)
-        ensures stays { StaysAs W.tells W.links W.failures F.told F.synced self.old self.new }
+        ensures stays { StaysAs W.tells W.links W.failures F.told F.synced S.drawn self.old self.new }
         ensures same { IsSame W.waited S.clock self.old self.new }
     {
         self.own.serve_nobody();
@@ -36,7 +36,7 @@ impl<W: Wire, F: LogFile, S: Source> Host<'_, '_, W, F, S> {
         piece: &mut [u8],
         most: usize,
     ) -> Option<LinkId>
-        ensures went { Goes W.tells W.links W.failures F.told F.synced self.old self.new }
+        ensures went { Goes W.tells W.links W.failures F.told F.synced S.drawn self.old self.new }
         ensures same { IsSame W.waited S.clock self.old self.new }
         ensures quiet { AllWait self.old.node.now → WaitsBut result self.new.node.now }
         ensures linked { IfSome result (λ link. HasLink self.new.own.now.connections socket link) }
@@ -65,7 +65,7 @@ impl<W: Wire, F: LogFile, S: Source> Host<'_, '_, W, F, S> {
     fn read_into(&mut self, socket: LinkId, link: LinkId, buffer: &mut [u8]) -> Option<LinkId>
         requires read { IsRead self.old.own.now socket link }
         requires room { HasRoom self.old.node.now link (length buffer.old) }
-        ensures went { Goes W.tells W.links W.failures F.told F.synced self.old self.new }
+        ensures went { Goes W.tells W.links W.failures F.told F.synced S.drawn self.old self.new }
         ensures same { IsSame W.waited S.clock self.old self.new }
         ensures quiet { AllWait self.old.node.now → WaitsBut result self.new.node.now }
         ensures linked { IfSome result (λ l. HasLink self.new.own.now.connections socket l) }

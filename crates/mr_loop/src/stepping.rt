@@ -1,16 +1,20 @@
 // What the node makes of what peers sent.
 ghost use Rattle.std.specs.Prelude.{◌≡◌, ◌<◌, false, true, IfErr, IfOk, IsErrOf, IsTrue, OnOk};
 ghost use Rattle.mr_connections.specs.State.{HasLink};
+ghost use Rattle.mr_node.specs.Parts.{role_of};
+ghost use Rattle.mr_rows.specs.State.{end_of};
 ghost use Rattle.mr_loop.specs.Causes.{HasInput, IsBurdened, IsLight, IsLinked};
 ghost use Rattle.mr_loop.specs.Going.{GoesAs};
+ghost use Rattle.mr_loop.specs.News.{is_client_end, place_of};
 ghost use Rattle.mr_loop.specs.Hosts.{IsSame};
 ghost use Rattle.mr_loop.specs.Quiet.{AllWait, OthersWait, WaitsUnless, left_at};
 
 use crate::fault::LoopFault;
+use crate::followed::{Place, news_of, place_of};
 use crate::host::Host;
 use mr_file::LogFile;
 use mr_links::LinkId;
-use mr_node::{NodeFault, Step};
+use mr_node::{NodeFault, Role, Step};
 use mr_source::Source;
 use mr_wire::Wire;
 
@@ -21,7 +25,7 @@ impl<W: Wire, F: LogFile, S: Source> Host<'_, '_, W, F, S> {
     /// Steps on a link until nothing whole is there.
     pub(crate) fn step_all(&mut self, socket: LinkId, link: LinkId) -> Result<(), LoopFault>
         requires { IsLinked self.old.node.now self.old.own.now socket link }
-        ensures went { GoesAs W.tells W.links W.failures F.told F.synced result self.old self.new }
+        ensures went { GoesAs W.tells W.links W.failures F.told F.synced S.drawn result self.old self.new }
         ensures same { IsSame W.waited S.clock self.old self.new }
         ensures device { IsErrOf result LoopFault.File → self.new.log.now.broken ≡ true }
         ensures quiet { OthersWait self.old.node.now link → OnOk result (AllWait self.new.node.now) }
@@ -34,7 +38,7 @@ impl<W: Wire, F: LogFile, S: Source> Host<'_, '_, W, F, S> {
     /// was used.
     fn step_next(&mut self, socket: LinkId, link: LinkId) -> Result<bool, LoopFault>
         requires { IsLinked self.old.node.now self.old.own.now socket link }
-        ensures went { GoesAs W.tells W.links W.failures F.told F.synced result self.old self.new }
+        ensures went { GoesAs W.tells W.links W.failures F.told F.synced S.drawn result self.old self.new }
         ensures same { IsSame W.waited S.clock self.old self.new }
         ensures device { IsErrOf result LoopFault.File → self.new.log.now.broken ≡ true }
         ensures quiet { OthersWait self.old.node.now link → IfOk result (λ used. WaitsUnless used link self.new.node.now) }
@@ -76,7 +80,7 @@ impl<W: Wire, F: LogFile, S: Source> Host<'_, '_, W, F, S> {
         requires input { HasInput self.old.node.now link }
         requires has { HasLink self.old.own.now.connections socket link }
         requires light { IsLight self.old.node.now self.old.own.now socket link }
-        ensures went { GoesAs W.tells W.links W.failures F.told F.synced result self.old self.new }
+        ensures went { GoesAs W.tells W.links W.failures F.told F.synced S.drawn result self.old self.new }
         ensures same { IsSame W.waited S.clock self.old self.new }
         ensures device { IsErrOf result LoopFault.File → self.new.log.now.broken ≡ true }
         ensures quiet { OthersWait self.old.node.now link → IfOk result (λ used. WaitsUnless used link self.new.node.now) }
@@ -85,10 +89,13 @@ impl<W: Wire, F: LogFile, S: Source> Host<'_, '_, W, F, S> {
     {
         let given = self.moment.given(self.source.word());
         let fresh = self.moment.fresh();
+        let place = self.place(link);
         self.moment.count_step();
         match self.node.step(link, given, fresh) {
             Ok(Step::Done(outs)) => {
                 self.moment.count_use();
+                let news = news_of(place, self.node.role(), &outs);
+                self.moment.hear(news);
                 self.take(outs)?;
                 Ok(true)
             }
@@ -103,12 +110,23 @@ impl<W: Wire, F: LogFile, S: Source> Host<'_, '_, W, F, S> {
         }
     }
 
+    /// Where a step on a link is made.
+    fn place(&self, link: LinkId) -> Place
+        ensures { result ≡ place_of (role_of self.now.node.now) (is_client_end (end_of self.now.node.now link)) }
+    {
+        match self.node.role() {
+            Role::Master | Role::Connect => Place::Elsewhere,
+            Role::Sync => place_of(Role::Sync, self.node.is_client(link)),
+            Role::Connected => place_of(Role::Connected, self.node.is_client(link)),
+        }
+    }
+
     /// Where a client left too much unread, what waits for it is written, and what waits for the file before that. Where too much is
     /// left, its connection is closed, which is counted. It answers whether the connection is still there.
     fn unburden(&mut self, socket: LinkId, link: LinkId) -> Result<bool, LoopFault>
         requires input { HasInput self.old.node.now link }
         requires linked { IsLinked self.old.node.now self.old.own.now socket link }
-        ensures went { GoesAs W.tells W.links W.failures F.told F.synced result self.old self.new }
+        ensures went { GoesAs W.tells W.links W.failures F.told F.synced S.drawn result self.old self.new }
         ensures same { IsSame W.waited S.clock self.old self.new }
         ensures device { IsErrOf result LoopFault.File → self.new.log.now.broken ≡ true }
         ensures quiet { OthersWait self.old.node.now link → IfOk result (λ there. there ≡ false → AllWait self.new.node.now) }

@@ -16,7 +16,7 @@ use mr_wire::Wire;
 impl<W: Wire, F: LogFile, S: Source> Host<'_, '_, W, F, S> {
     /// Has time pass at the node, again and again while it deletes, and so often at most. It answers whether more may be due.
     pub(crate) fn tick_all(&mut self) -> Result<bool, LoopFault>
-        ensures went { PassesAs W.tells W.links W.failures F.told F.synced result (most_ticks self.old.moment.turn.done) self.old self.new }
+        ensures went { PassesAs W.tells W.links W.failures F.told F.synced S.drawn result (most_ticks self.old.moment.turn.done) self.old self.new }
         ensures same { IsSame W.waited S.clock self.old self.new }
         ensures device { IsErrOf result LoopFault.File → self.new.log.now.broken ≡ true }
         ensures quiet { AllWait self.old.node.now → OnOk result (AllWait self.new.node.now) }
@@ -33,7 +33,7 @@ impl<W: Wire, F: LogFile, S: Source> Host<'_, '_, W, F, S> {
 
     /// Time passes at the node. It answers whether another tick may still delete.
     fn tick(&mut self) -> Result<bool, LoopFault>
-        ensures went { TicksAs W.tells W.links W.failures F.told F.synced result self.old self.new }
+        ensures went { TicksAs W.tells W.links W.failures F.told F.synced S.drawn result self.old self.new }
         ensures same { IsSame W.waited S.clock self.old self.new }
         ensures device { IsErrOf result LoopFault.File → self.new.log.now.broken ≡ true }
         ensures quiet { AllWait self.old.node.now → OnOk result (AllWait self.new.node.now) }

@@ -1,6 +1,8 @@
 // What a turn tells of itself.
-ghost use Rattle.std.specs.Prelude.{◌≡◌, ◌+◌, false};
-ghost use Rattle.mr_loop.specs.Counting.{counted, most_ticks};
+ghost use Rattle.std.specs.Prelude.{◌≡◌, ◌+◌};
+ghost use Rattle.mr_loop.specs.Counting.{counted, heard_if, most_ticks, nothing_counted};
+
+use crate::followed::{Followed, News};
 
 /// So many ticks may be made in each turn.
 const TICKS: u64 = 16;
@@ -21,12 +23,14 @@ pub struct Turn {
     pub deaf: u64,
     /// A client said SHUTDOWN.
     pub halted: bool,
+    /// What came of following a master.
+    pub followed: Followed,
 }
 
 impl Turn {
     /// A turn begins: nothing is counted yet.
     pub(crate) fn begun() -> Turn
-        ensures { result ≡ record { steps = 0; done = 0; used = 0; deaf = 0; halted = false } }
+        ensures { result ≡ nothing_counted }
     {
         Turn {
             steps: 0,
@@ -34,6 +38,7 @@ impl Turn {
             used: 0,
             deaf: 0,
             halted: false,
+            followed: Followed::none(),
         }
     }
 
@@ -65,6 +70,15 @@ impl Turn {
         self.deaf = self.deaf.saturating_add(1);
     }
 
+    /// Counts what a step came to between a replica and its master, if there is something.
+    pub(crate) fn hear(&mut self, news: Option<News>)
+        ensures { self.new ≡ record self.old { followed = heard_if news self.old.followed } }
+    {
+        if let Some(news) = news {
+            self.followed.hear(news);
+        }
+    }
+
     /// So many ticks are made at most in a turn with as many steps.
     pub(crate) fn most_ticks(self) -> u64
         ensures { result ≡ most_ticks self.done }
@@ -82,6 +96,7 @@ impl Turn {
             used: self.used,
             deaf: self.deaf,
             halted,
+            followed: self.followed,
         }
     }
 }

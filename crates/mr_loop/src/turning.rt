@@ -1,9 +1,10 @@
 // A turn.
-ghost use Rattle.std.specs.Prelude.{◌≡◌, ◌≤◌, [], false, true, OnErr, OnOk, IsErrOf};
+ghost use Rattle.std.specs.Prelude.{◌≡◌, ◌≤◌, ◌∷◌, [], false, true, OnErr, OnOk, IsErrOf};
 ghost use Rattle.mr_file.specs.LogFile.{Rose};
 ghost use Rattle.mr_connections.specs.State.{NoneDone};
+ghost use Rattle.mr_loop.specs.Counting.{nothing_counted};
 ghost use Rattle.mr_loop.specs.Going.{GoesAs, GoesTelling};
-ghost use Rattle.mr_loop.specs.Hosts.{IsSame, stage_in};
+ghost use Rattle.mr_loop.specs.Hosts.{IsSame, moment_in, stage_in};
 ghost use Rattle.mr_loop.specs.Outcomes.{Turns};
 ghost use Rattle.mr_loop.specs.Quiet.{AllWait};
 ghost use Rattle.mr_loop.specs.Stage.{stage};
@@ -29,8 +30,8 @@ const MOST_PIECES: u32 = 64;
 /// time pass at the node, and closes each connection whose end the node has closed once all is written there. On a connection whose
 /// socket isn't ready it spends nothing but what is sent there. No turn begins once a client asked that the program end: the one in
 /// which it did goes to its end. It answers how many steps the node was asked
-/// for, how many of them used something, how many fresh ids the node took, how many clients were given up as deaf, and whether a
-/// client asked that. Where the file fails, or memory runs out for what the node gave out, the node is stopped, and no turn may
+/// for, how many of them used something, how many fresh ids the node took, how many clients were given up as deaf, what came of
+/// following a master, and whether a client asked that. Where the file fails, or memory runs out for what the node gave out, the node is stopped, and no turn may
 /// begin any more.
 pub fn turn<W: Wire, F: LogFile, S: Source>(
     node: &mut Node,
@@ -42,7 +43,7 @@ pub fn turn<W: Wire, F: LogFile, S: Source>(
     requires filed { links.old.batch ≡ [] }
     requires runs { links.old.halted ≡ false }
     requires up { node.old.core.up ≡ true }
-    ensures went { Turns W.tells log.old.mode (S.clock source.new) result (stage node.old links.old (W.links wire.old) (W.failures wire.old) (F.told log.old.file) (F.synced log.old.file)) (stage node.new links.new (W.links wire.new) (W.failures wire.new) (F.told log.new.file) (F.synced log.new.file)) }
+    ensures went { Turns W.tells log.old.mode (S.clock source.new) [] (S.drawn source.old) (S.drawn source.new) result (stage node.old links.old (W.links wire.old) (W.failures wire.old) (F.told log.old.file) (F.synced log.old.file)) (stage node.new links.new (W.links wire.new) (W.failures wire.new) (F.told log.new.file) (F.synced log.new.file)) }
     ensures written { OnOk result (links.new.batch ≡ []) }
     ensures mode { log.new.mode ≡ log.old.mode }
     ensures device { IsErrOf result LoopFault.File → log.new.broken ≡ true }
@@ -74,9 +75,9 @@ fn turn_at<W: Wire, F: LogFile, S: Source>(
     moment: Moment,
 ) -> Result<Turn, LoopFault>
     requires filed { own.old.batch ≡ [] }
-    requires begun { moment.turn ≡ record { steps = 0; done = 0; used = 0; deaf = 0; halted = false } }
+    requires begun { moment.turn ≡ nothing_counted }
     requires up { node.old.core.up ≡ true }
-    ensures went { Turns W.tells log.old.mode moment.time result (stage node.old own.old (W.links wire.old) (W.failures wire.old) (F.told log.old.file) (F.synced log.old.file)) (stage node.new own.new (W.links wire.new) (W.failures wire.new) (F.told log.new.file) (F.synced log.new.file)) }
+    ensures went { Turns W.tells log.old.mode moment.time (moment.fresh ∷ []) (S.drawn source.old) (S.drawn source.new) result (stage node.old own.old (W.links wire.old) (W.failures wire.old) (F.told log.old.file) (F.synced log.old.file)) (stage node.new own.new (W.links wire.new) (W.failures wire.new) (F.told log.new.file) (F.synced log.new.file)) }
     ensures written { OnOk result (own.new.batch ≡ []) }
     ensures mode { log.new.mode ≡ log.old.mode }
     ensures device { IsErrOf result LoopFault.File → log.new.broken ≡ true }
@@ -132,8 +133,8 @@ impl<W: Wire, F: LogFile, S: Source> Host<'_, '_, W, F, S> {
     /// A turn behind its wait. Behind a fault the node is stopped.
     fn run(&mut self) -> Result<Turn, LoopFault>
         requires filed { self.old.own.now.batch ≡ [] }
-        requires begun { self.old.moment.turn ≡ record { steps = 0; done = 0; used = 0; deaf = 0; halted = false } }
-        ensures went { Turns W.tells self.old.log.now.mode self.old.moment.time result (stage_in W.links W.failures F.told F.synced self.old) (stage_in W.links W.failures F.told F.synced self.new) }
+        requires begun { self.old.moment.turn ≡ nothing_counted }
+        ensures went { Turns W.tells self.old.log.now.mode self.old.moment.time (self.old.moment.fresh ∷ []) (S.drawn self.old.source.now) (S.drawn self.new.source.now) result (stage_in W.links W.failures F.told F.synced self.old) (stage_in W.links W.failures F.told F.synced self.new) }
         ensures written { OnOk result (self.new.own.now.batch ≡ []) }
         ensures same { IsSame W.waited S.clock self.old self.new }
         ensures device { IsErrOf result LoopFault.File → self.new.log.now.broken ≡ true }
@@ -155,8 +156,8 @@ impl<W: Wire, F: LogFile, S: Source> Host<'_, '_, W, F, S> {
     /// .. whose node goes on whatever comes of it.
     fn go_on(&mut self) -> Result<Turn, LoopFault>
         requires filed { self.old.own.now.batch ≡ [] }
-        requires begun { self.old.moment.turn ≡ record { steps = 0; done = 0; used = 0; deaf = 0; halted = false } }
-        ensures went { GoesTelling W.tells W.links W.failures F.told F.synced result self.old self.new }
+        requires begun { self.old.moment.turn ≡ nothing_counted }
+        ensures went { GoesTelling W.tells W.links W.failures F.told F.synced S.drawn result self.old self.new }
         ensures written { OnOk result (self.new.own.now.batch ≡ []) }
         ensures same { IsSame W.waited S.clock self.old self.new }
         ensures device { IsErrOf result LoopFault.File → self.new.log.now.broken ≡ true }
@@ -176,11 +177,11 @@ impl<W: Wire, F: LogFile, S: Source> Host<'_, '_, W, F, S> {
     /// The end of a turn: what waits is appended and written, and each connection whose end the node has closed is closed where all
     /// is written.
     fn finish(&mut self) -> Result<(), LoopFault>
-        ensures went { GoesAs W.tells W.links W.failures F.told F.synced result self.old self.new }
+        ensures went { GoesAs W.tells W.links W.failures F.told F.synced S.drawn result self.old self.new }
         ensures written { OnOk result (self.new.own.now.batch ≡ []) }
         ensures closed { OnOk result (NoneDone self.new.own.now.connections) }
         ensures same { IsSame W.waited S.clock self.old self.new }
-        ensures turn { OnOk result (self.new.moment.turn ≡ self.old.moment.turn) }
+        ensures moment { OnOk result (moment_in S.drawn self.new ≡ moment_in S.drawn self.old) }
         ensures core { self.new.node.now.core ≡ self.old.node.now.core }
         ensures device { IsErrOf result LoopFault.File → self.new.log.now.broken ≡ true }
         ensures quiet { AllWait self.old.node.now → OnOk result (AllWait self.new.node.now) }
@@ -192,10 +193,10 @@ impl<W: Wire, F: LogFile, S: Source> Host<'_, '_, W, F, S> {
 
     /// Appends what waits for the file, and then writes what waits on the connections.
     fn send_all(&mut self) -> Result<(), LoopFault>
-        ensures went { GoesAs W.tells W.links W.failures F.told F.synced result self.old self.new }
+        ensures went { GoesAs W.tells W.links W.failures F.told F.synced S.drawn result self.old self.new }
         ensures written { OnOk result (self.new.own.now.batch ≡ []) }
         ensures same { IsSame W.waited S.clock self.old self.new }
-        ensures turn { OnOk result (self.new.moment.turn ≡ self.old.moment.turn) }
+        ensures moment { OnOk result (moment_in S.drawn self.new ≡ moment_in S.drawn self.old) }
         ensures core { self.new.node.now.core ≡ self.old.node.now.core }
         ensures device { IsErrOf result LoopFault.File → self.new.log.now.broken ≡ true }
         ensures quiet { AllWait self.old.node.now → OnOk result (AllWait self.new.node.now) }
@@ -207,7 +208,7 @@ impl<W: Wire, F: LogFile, S: Source> Host<'_, '_, W, F, S> {
 
     /// Serves each connection whose socket is ready. It answers whether one of them may have more to read.
     fn read_all(&mut self) -> Result<bool, LoopFault>
-        ensures went { GoesAs W.tells W.links W.failures F.told F.synced result self.old self.new }
+        ensures went { GoesAs W.tells W.links W.failures F.told F.synced S.drawn result self.old self.new }
         ensures same { IsSame W.waited S.clock self.old self.new }
         ensures device { IsErrOf result LoopFault.File → self.new.log.now.broken ≡ true }
         ensures quiet { AllWait self.old.node.now → OnOk result (AllWait self.new.node.now) }
@@ -221,7 +222,7 @@ impl<W: Wire, F: LogFile, S: Source> Host<'_, '_, W, F, S> {
 
     /// Reads of each connection whose socket is ready, and steps as far as its bytes go. It answers whether more is left to read.
     fn read_each(&mut self, piece: &mut [u8]) -> Result<bool, LoopFault>
-        ensures went { GoesAs W.tells W.links W.failures F.told F.synced result self.old self.new }
+        ensures went { GoesAs W.tells W.links W.failures F.told F.synced S.drawn result self.old self.new }
         ensures same { IsSame W.waited S.clock self.old self.new }
         ensures device { IsErrOf result LoopFault.File → self.new.log.now.broken ≡ true }
         ensures quiet { AllWait self.old.node.now → OnOk result (AllWait self.new.node.now) }
@@ -236,7 +237,7 @@ impl<W: Wire, F: LogFile, S: Source> Host<'_, '_, W, F, S> {
 
     /// Serves the connection that is ready there, and has what waits on it written next.
     fn read_at(&mut self, piece: &mut [u8], index: usize) -> Result<bool, LoopFault>
-        ensures went { GoesAs W.tells W.links W.failures F.told F.synced result self.old self.new }
+        ensures went { GoesAs W.tells W.links W.failures F.told F.synced S.drawn result self.old self.new }
         ensures same { IsSame W.waited S.clock self.old self.new }
         ensures device { IsErrOf result LoopFault.File → self.new.log.now.broken ≡ true }
         ensures quiet { AllWait self.old.node.now → OnOk result (AllWait self.new.node.now) }
@@ -251,7 +252,7 @@ impl<W: Wire, F: LogFile, S: Source> Host<'_, '_, W, F, S> {
 
     /// Reads of a connection and steps, until nothing more is there. It answers whether it left off before that.
     fn read_connection(&mut self, piece: &mut [u8], socket: LinkId) -> Result<bool, LoopFault>
-        ensures went { GoesAs W.tells W.links W.failures F.told F.synced result self.old self.new }
+        ensures went { GoesAs W.tells W.links W.failures F.told F.synced S.drawn result self.old self.new }
         ensures same { IsSame W.waited S.clock self.old self.new }
         ensures device { IsErrOf result LoopFault.File → self.new.log.now.broken ≡ true }
         ensures quiet { AllWait self.old.node.now → OnOk result (AllWait self.new.node.now) }

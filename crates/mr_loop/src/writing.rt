@@ -5,7 +5,7 @@ ghost use Rattle.mr_connections.specs.State.{HasLink, NoneDone};
 ghost use Rattle.mr_links.specs.declared.link_id.LinkId.{LinkId};
 ghost use Rattle.mr_loop.specs.Writing.{IsWritten, WroteOn};
 ghost use Rattle.mr_loop.specs.Going.{Goes};
-ghost use Rattle.mr_loop.specs.Hosts.{IsSame};
+ghost use Rattle.mr_loop.specs.Hosts.{IsSame, moment_in};
 ghost use Rattle.mr_loop.specs.Quiet.{AllWait};
 
 use crate::host::Host;
@@ -29,10 +29,10 @@ impl<W: Wire, F: LogFile, S: Source> Host<'_, '_, W, F, S> {
     /// Writes what waits on each connection that is noted, once. One on which less is moved is served again once the wire names it.
     pub(crate) fn write_all(&mut self)
         requires { self.old.own.now.batch ≡ [] }
-        ensures went { Goes W.tells W.links W.failures F.told F.synced self.old self.new }
+        ensures went { Goes W.tells W.links W.failures F.told F.synced S.drawn self.old self.new }
         ensures same { IsSame W.waited S.clock self.old self.new }
         ensures batch { self.new.own.now.batch ≡ [] }
-        ensures turn { self.new.moment.turn ≡ self.old.moment.turn }
+        ensures moment { moment_in S.drawn self.new ≡ moment_in S.drawn self.old }
         ensures core { self.new.node.now.core ≡ self.old.node.now.core }
         ensures quiet { AllWait self.old.node.now → AllWait self.new.node.now }
     {
@@ -48,9 +48,9 @@ impl<W: Wire, F: LogFile, S: Source> Host<'_, '_, W, F, S> {
     pub(crate) fn write_ready(&mut self, socket: LinkId, link: LinkId) -> bool
         requires filed { self.old.own.now.batch ≡ [] }
         requires has { HasLink self.old.own.now.connections socket link }
-        ensures went { Goes W.tells W.links W.failures F.told F.synced self.old self.new }
+        ensures went { Goes W.tells W.links W.failures F.told F.synced S.drawn self.old self.new }
         ensures same { IsSame W.waited S.clock self.old self.new }
-        ensures turn { self.new.moment.turn ≡ self.old.moment.turn }
+        ensures moment { moment_in S.drawn self.new ≡ moment_in S.drawn self.old }
         ensures there { result ≡ true → (self.new.node.now ≡ self.old.node.now) × IsWritten W.tells (W.links self.new.wire.now) socket link self.new.own.now }
         ensures gone { result ≡ false → self.new.node.now ≡ closed_at link self.old.node.now }
     {
@@ -66,10 +66,10 @@ impl<W: Wire, F: LogFile, S: Source> Host<'_, '_, W, F, S> {
     /// Writes what waits on a connection, once. Where that fails, the connection is closed.
     fn write_once(&mut self, socket: LinkId) -> Wrote
         requires { self.old.own.now.batch ≡ [] }
-        ensures went { Goes W.tells W.links W.failures F.told F.synced self.old self.new }
+        ensures went { Goes W.tells W.links W.failures F.told F.synced S.drawn self.old self.new }
         ensures same { IsSame W.waited S.clock self.old self.new }
         ensures batch { self.new.own.now.batch ≡ [] }
-        ensures turn { self.new.moment.turn ≡ self.old.moment.turn }
+        ensures moment { moment_in S.drawn self.new ≡ moment_in S.drawn self.old }
         ensures core { self.new.node.now.core ≡ self.old.node.now.core }
         ensures wrote { (link : LinkId) → HasLink self.old.own.now.connections socket link → WroteOn W.tells result (W.links self.new.wire.now) socket link self.old.node.now self.new.node.now self.old.own.now self.new.own.now }
         ensures quiet { AllWait self.old.node.now → AllWait self.new.node.now }
@@ -104,10 +104,10 @@ impl<W: Wire, F: LogFile, S: Source> Host<'_, '_, W, F, S> {
 
     /// Closes each connection whose end the node has closed, where all is written.
     pub(crate) fn close_done(&mut self)
-        ensures went { Goes W.tells W.links W.failures F.told F.synced self.old self.new }
+        ensures went { Goes W.tells W.links W.failures F.told F.synced S.drawn self.old self.new }
         ensures same { IsSame W.waited S.clock self.old self.new }
         ensures batch { self.new.own.now.batch ≡ self.old.own.now.batch }
-        ensures turn { self.new.moment.turn ≡ self.old.moment.turn }
+        ensures moment { moment_in S.drawn self.new ≡ moment_in S.drawn self.old }
         ensures node { self.new.node.now ≡ self.old.node.now }
         ensures closed { NoneDone self.new.own.now.connections }
     {

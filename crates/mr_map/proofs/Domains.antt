@@ -30,6 +30,13 @@ module _ {X Y : Type 0} (o : ByteMap X) (h : ByteMap Y) (k : List ℕ) (same : H
   pub out_both : HaveSameKeys (remove o k) (remove h k)
   out_both q = ap is_some (get-remove nat_list_cmp_total o k q) ∙ step_out (eq_by_cmp bytes_cmp q k) (get o q) (get h q) (same q) ∙ sym (ap is_some (get-remove nat_list_cmp_total h k q))
 
+  -- a key that neither has is taken out of one
+  pub out_of_one : get h k ≡ None → HaveSameKeys o (remove h k)
+  out_of_one absent q = same q ∙ elim (eq_by_cmp bytes_cmp q k) as (λ b. eq_by_cmp bytes_cmp q k ≡ b → is_some (get h q) ≡ is_some (cond b None (get h q))) [
+    | true ↦ λ e. ap (λ (z : List ℕ). is_some (get h z)) (exact_bytes q k (equal _ e)) ∙ ap is_some absent
+    | false ↦ λ e. refl
+  ] refl ∙ sym (ap is_some (get-remove nat_list_cmp_total h k q))
+
   -- a key that is there gets another value
   pub put_there : (v : Y) → contains_key h k ≡ true → HaveSameKeys o (insert h k v)
   put_there v there q = same q ∙ elim (eq_by_cmp bytes_cmp q k) as (λ b. eq_by_cmp bytes_cmp q k ≡ b → is_some (get h q) ≡ is_some (cond b (Some v) (get h q))) [

@@ -1,5 +1,5 @@
 -- Bytes compare as the numbers that they spell.
-use Rattle.std.proofs.Common.{◌≡◌, ℕ, zero, suc, ◌+◌, ◌*◌, ◌<◌, ◌≤◌, List, [], ◌∷◌, ◌++◌, length, get_or, take, drop, refl, sym, ◌∙◌, ap, subst, arith, Fits, w8, get_or-drop, drop-drop, length-drop}
+use Rattle.std.proofs.Common.{◌≡◌, ℕ, zero, suc, ◌+◌, ◌*◌, ◌%◌, ◌^◌, ◌<◌, ◌≤◌, List, [], ◌∷◌, ◌++◌, length, get_or, take, drop, refl, sym, ◌∙◌, ap, subst, arith, Fits, w8, get_or-drop, drop-drop, length-drop}
 use Rattle.std.specs.Ordering.{nat_cmp, ordering_then, MatchOrdering}
 use Rattle.std.specs.declared.cmp.Ordering.{Ordering}
 use Rattle.std.specs.declared.cmp.Ordering.TheVariants.{Less, Equal, Greater}
@@ -79,6 +79,30 @@ last_spelled a b m n (u ∷ us) (v ∷ vs) e g h p q =
     ∙ ap (λ r. ordering_then r (ordering_then (bytes_cmp us vs) (nat_cmp m n))) (longer a b u v (g 0).fits (h 0).fits)
     ∙ nested (nat_cmp a b) (nat_cmp u v) (ordering_then (bytes_cmp us vs) (nat_cmp m n))
     ∙ ap (ordering_then (nat_cmp a b)) (sym (nested (nat_cmp u v) (bytes_cmp us vs) (nat_cmp m n)))
+
+-- eight bytes as a word without the first of them, with a byte more behind
+moved : (d : List ℕ) (m : ℕ) → length d ≡ 8 → AreBytes d → m < 256 → (big_endian 0 d * 256 % 2 ^ 64 + m) % 2 ^ 64 ≡ big_endian 0 (drop 1 d ++ m ∷ [])
+moved [] m e f p = absurd (omega (arith, e))
+moved (b ∷ []) m e f p = absurd (omega (arith, e))
+moved (b ∷ c ∷ []) m e f p = absurd (omega (arith, e))
+moved (b ∷ c ∷ d ∷ []) m e f p = absurd (omega (arith, e))
+moved (b ∷ c ∷ d ∷ g ∷ []) m e f p = absurd (omega (arith, e))
+moved (b ∷ c ∷ d ∷ g ∷ h ∷ []) m e f p = absurd (omega (arith, e))
+moved (b ∷ c ∷ d ∷ g ∷ h ∷ i ∷ []) m e f p = absurd (omega (arith, e))
+moved (b ∷ c ∷ d ∷ g ∷ h ∷ i ∷ j ∷ []) m e f p = absurd (omega (arith, e))
+moved (b ∷ c ∷ d ∷ g ∷ h ∷ i ∷ j ∷ k ∷ []) m e f p = omega (arith, p, (f 1).fits, (f 2).fits, (f 3).fits, (f 4).fits, (f 5).fits, (f 6).fits, (f 7).fits)
+moved (b ∷ c ∷ d ∷ g ∷ h ∷ i ∷ j ∷ k ∷ l ∷ more) m e f p = absurd (omega (arith, e))
+
+-- the last seven bytes of a key's room and a byte more, by the word that ends there
+pub last_is : (l : List ℕ) (w m : ℕ) → length l ≡ room → AreBytes l → m < 256 → w ≡ big_endian 0 (part 15 8 l) → (w * 256 % 2 ^ 64 + m) % 2 ^ 64 ≡ big_endian 0 (part 16 7 l ++ m ∷ [])
+last_is l w m e f p spells =
+    let all : part 15 8 l ≡ drop 15 l = take_all 8 (drop 15 l) (omega (arith, e, length-drop 15 l)) in
+    let eight : length (drop 15 l) ≡ 8 = omega (arith, e, length-drop 15 l) in
+    let bytes : AreBytes (drop 15 l) = λ k. subst (Fits w8) (sym (get_or-drop 15 l k 0)) (f (15 + k)) in
+    let rest : drop 1 (drop 15 l) ≡ part 16 7 l = drop-drop 1 15 l ∙ sym (whole l e) in
+    ap (λ v. (v * 256 % 2 ^ 64 + m) % 2 ^ 64) (spells ∙ ap (big_endian 0) all)
+    ∙ moved (drop 15 l) m eight bytes p
+    ∙ ap (λ t. big_endian 0 (t ++ m ∷ [])) rest
 
 -- numbers that differ decide, and else the next ones do
 apart_decides : (x y : ℕ) (o : Ordering) → (x ≡ y → ⊥) → nat_cmp x y ≡ ordering_then (nat_cmp x y) o

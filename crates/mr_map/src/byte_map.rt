@@ -10,8 +10,8 @@ use std::alloc::{AllocError, Global};
 use std::marker::Model;
 
 /// A finite map from byte strings: ordered trees, in which short keys lie themselves. A look-up compares about log2 of the
-/// number of keys. The map itself is a pointer, and the trees come with the first key, so that a value which may be one of
-/// several kinds is no larger for it.
+/// number of keys. The map itself is a pointer, and the trees come with the first key, so that what holds it is no larger for
+/// them.
 pub struct ByteMap<V> {
     alloc: Global,
     trees: Option<Box<Trees<V>>>,

@@ -1,4 +1,4 @@
-// How the bytes of keys are hashed: SipHash-1-3 (Aumasson and Bernstein, 2012) over groups of seven bytes.
+// How keys are hashed: SipHash-1-3 (Aumasson and Bernstein, 2012) over words, or over groups of seven bytes.
 ghost use Rattle.std.specs.Prelude.{◌≡◌};
 ghost use Rattle.mr_map.specs.Hashing.{absorbed, fed_by, finished, rounded, with_byte};
 
@@ -7,15 +7,15 @@ use std::hash::{BuildHasher, Hasher, RandomState};
 // Seven bytes behind a 1 are this number or a larger one.
 const FULL: u64 = 0x100_0000_0000_0000;
 
-/// The seeded hash of a key, fed with seven bytes at a time. std hands over a byte string as its length and then byte by
-/// byte. The groups tell the length as well, so it isn't fed.
+/// The seeded hash of a key. A short key hands over three words, and each is fed at once. Of a longer one std hands over its
+/// length and then byte by byte: seven bytes are fed at a time, and these groups tell the length as well, so it isn't fed.
 #[derive(Clone, Copy)]
 pub(crate) struct KeyHasher {
     v0: u64,
     v1: u64,
     v2: u64,
     v3: u64,
-    // A 1 and the bytes that aren't fed yet, the last of them lowest.
+    // A 1 and the bytes that aren't fed yet, the last of them lowest. 0 behind words, which leave none open.
     group: u64,
 }
 
@@ -86,15 +86,24 @@ impl Hasher for KeyHasher {
 
     #[inline]
     fn write(&mut self, bytes: &[u8]) {
-        if let [byte] = bytes {
-            self.push(*byte);
+        match bytes {
+            [byte] => self.push(*byte),
+            [a, b, c, d, e, f, g, h] => {
+                *self = self.absorb(u64::from_le_bytes([*a, *b, *c, *d, *e, *f, *g, *h]));
+                self.group = 0;
+            }
+            _ => {}
         }
     }
 
     #[inline]
     #[tactic(auto, unfolding(crate::specs::Hashing::finished))]
     fn finish(&self) -> u64 {
-        let fed = self.absorb(self.group);
+        let fed = if self.group == 0 {
+            *self
+        } else {
+            self.absorb(self.group)
+        };
         let last = KeyHasher {
             v0: fed.v0,
             v1: fed.v1,

@@ -1,37 +1,41 @@
 // A map from byte strings by a seeded hash, with its keys in byte order beside it.
-ghost use Rattle.std.specs.Prelude.{◌≡◌, ◌==◌, ◌<◌, ◌^◌, OnOk, OnErr, IfOk, IfSome, option_copied, option_map};
+ghost use Rattle.std.specs.Prelude.{◌≡◌, ◌==◌, ◌<◌, ◌^◌, length, OnOk, OnErr, IfOk, IfSome, option_copied, option_map};
 ghost use Rattle.std.specs.FinMap as map;
 ghost use Rattle.std.specs.Option.{option_copied_mut};
+ghost use Rattle.mr_map.specs.Bytes.{held_bytes};
+ghost use Rattle.mr_map.specs.Short.{room};
 
 use crate::byte_map::ByteMap;
 use crate::hashing::KeySeed;
+use crate::held_key::HeldKey;
 use crate::keys::Keys;
+use crate::short_key::ShortKey;
+use crate::tables::Tables;
+use crate::trees::MOST;
 use std::alloc::{AllocError, Global};
-use std::collections::HashMap;
 use std::hash::RandomState;
 use std::marker::Model;
 
-/// A finite map from byte strings: looked up by a seeded hash, and gone over in byte order. Each key is kept twice.
+/// A finite map from byte strings: looked up by a seeded hash, and gone over in byte order. Each key is kept twice; one of at
+/// most 23 bytes takes no memory of its own.
 #[derive(Drop)]
 pub struct KeyedMap<V> {
-    alloc: Global,
-    table: HashMap<Vec<u8>, V, KeySeed>,
+    tables: Tables<V>,
     order: ByteMap<()>,
 }
 
 impl<V> Model for KeyedMap<V> {
-    ghost use Rattle.std.specs.Prelude.{◌≡◌, ℕ, List};
     ghost use Rattle.std.specs.FinMap as map;
     ghost use Rattle.std.specs.Coded.{coded_ℕ, coded_list};
-    ghost use Rattle.mr_map.specs.Bytes.{bytes_cmp, map_of, HaveSameKeys};
+    ghost use Rattle.mr_map.specs.Bytes.{bytes_cmp, HaveSameKeys};
 
     ghost Value = { map.FinMap bytes_cmp V };
 
     ghost coded = { map.code (coded_list coded_ℕ) V.code };
 
-    ghost view = { λ a. map_of a.table.entries };
+    ghost view = { λ a. a.tables };
 
-    ghost invariant = { λ a. HaveSameKeys a.order (map_of a.table.entries) };
+    ghost invariant = { λ a. HaveSameKeys a.order a.tables };
 }
 
 impl<V> KeyedMap<V> {
@@ -40,8 +44,7 @@ impl<V> KeyedMap<V> {
         ensures { result ≡ map.empty }
     {
         KeyedMap {
-            alloc,
-            table: HashMap::with_hasher(alloc, KeySeed::of(seed)),
+            tables: Tables::new(alloc, KeySeed::of(seed)),
             order: ByteMap::new(alloc),
         }
     }
@@ -51,7 +54,7 @@ impl<V> KeyedMap<V> {
         ensures len { result ≡ map.len self.now }
         ensures small { result < 2 ^ 63 }
     {
-        self.table.len()
+        self.tables.len()
     }
 
     /// Whether there is no key.
@@ -72,7 +75,7 @@ impl<V> KeyedMap<V> {
     pub fn get(&self, key: &[u8]) -> Option<&V>
         ensures { option_copied result ≡ map.get self.now key.now }
     {
-        self.table.get(key)
+        self.tables.get(key)
     }
 
     /// Whether a key has a value.
@@ -92,7 +95,7 @@ impl<V> KeyedMap<V> {
         ensures* writes_back { sem 𝓛 (lends_keyed V.row self.entry key.now result) }
         ensures value { option_copied_mut result ≡ map.get self.old key.now }
     {
-        match self.table.get_mut(key) {
+        match self.tables.get_mut(key) {
             Some(value) => Some(value),
             None => None,
         }
@@ -100,20 +103,58 @@ impl<V> KeyedMap<V> {
 }
 
 impl<V: Drop> KeyedMap<V> {
-    /// Sets the value of a key, and answers the one before. All memory is taken before the first change: where it runs
-    /// out, the map is as it was. It is made for new keys, which it puts into the order without looking them up first: the
-    /// value of a key that is there is changed through `get_mut`.
+    /// Sets the value of a key, and answers the one before. Where memory runs out, the map is as it was. It is made for new
+    /// keys, which it puts into the order without looking them up first: the value of a key that is there is changed through
+    /// `get_mut`.
     pub fn insert(&mut self, key: Vec<u8>, value: V) -> Result<Option<V>, AllocError>
         ensures before { IfOk result (λ before. before ≡ map.get self.old key.items) }
         ensures ok { OnOk result (self.new ≡ map.insert self.old key.items value) }
         ensures err { OnErr result (self.new ≡ self.old) }
     {
-        self.table.reserve(1)?;
+        match ShortKey::of(key.as_slice()) {
+            Some(short) => self.insert_short(short, value),
+            None => self.insert_long(key, value),
+        }
+    }
+
+    /// The same of a short key.
+    pub fn insert_short(&mut self, key: ShortKey, value: V) -> Result<Option<V>, AllocError>
+        ensures before { IfOk result (λ before. before ≡ map.get self.old key) }
+        ensures ok { OnOk result (self.new ≡ map.insert self.old key value) }
+        ensures err { OnErr result (self.new ≡ self.old) }
+    {
+        if self.len() >= MOST {
+            return Err(AllocError);
+        }
         self.order.insert_copy(key.as_slice(), ())?;
-        match self.table.insert(key, value) {
+        match self.tables.insert_short(key, value) {
             Ok(before) => Ok(before),
-            // Room is reserved.
-            Err(_) => unreachable!(),
+            Err(refused) => {
+                let (short, _value) = refused.value;
+                let _ = self.order.remove(short.as_slice());
+                Err(AllocError)
+            }
+        }
+    }
+
+    /// The same of a longer key.
+    fn insert_long(&mut self, key: Vec<u8>, value: V) -> Result<Option<V>, AllocError>
+        requires { room < length key.items }
+        ensures before { IfOk result (λ before. before ≡ map.get self.old key.items) }
+        ensures ok { OnOk result (self.new ≡ map.insert self.old key.items value) }
+        ensures err { OnErr result (self.new ≡ self.old) }
+    {
+        if self.len() >= MOST {
+            return Err(AllocError);
+        }
+        self.order.insert_copy(key.as_slice(), ())?;
+        match self.tables.insert_long(key, value) {
+            Ok(before) => Ok(before),
+            Err(refused) => {
+                let (long, _value) = refused.value;
+                let _ = self.order.remove(long.as_slice());
+                Err(AllocError)
+            }
         }
     }
 
@@ -127,21 +168,13 @@ impl<V: Drop> KeyedMap<V> {
     }
 
     /// Removes a key, and answers its bytes with its value. It takes no memory.
-    pub fn remove_entry(&mut self, key: &[u8]) -> Option<(Vec<u8>, V)>
+    pub fn remove_entry(&mut self, key: &[u8]) -> Option<(HeldKey, V)>
         ensures before { option_map (λ e. e.1) result ≡ map.get self.old key.now }
-        ensures key { IfSome result (λ e. e.0.items ≡ key.now) }
+        ensures key { IfSome result (λ e. held_bytes e.0 ≡ key.now) }
         ensures removed { self.new ≡ map.remove self.old key.now }
     {
-        let before = self.table.remove_entry(key)?;
+        let before = self.tables.remove_entry(key)?;
         let _ = self.order.remove(key);
         Some(before)
-    }
-
-    /// Removes every key. It takes no memory.
-    pub fn clear(&mut self)
-        ensures { self.new ≡ map.empty }
-    {
-        self.table.clear();
-        self.order = ByteMap::new(self.alloc);
     }
 }

@@ -3,12 +3,14 @@ ghost use Rattle.std.specs.Prelude.{◌≡◌, ◌+◌, ◌≤◌, ◌∷◌, �
 ghost use Rattle.std.specs.Slice.Scan.{big_endian};
 ghost use Rattle.std.specs.Ordering.{as_partial_cmp, eq_by_cmp, nat_cmp, ordering_then};
 ghost use Rattle.std.specs.Cmp.{eq_by_cmp_equiv, partial_equiv_from_equiv, partial_order_from_total};
-ghost use Rattle.std.specs.Cmp.Lexicographic.{nat_list_cmp_total};
-ghost use Rattle.std.proofs.Common.{refl};
+ghost use Rattle.std.specs.Cmp.Lexicographic.{nat_list_cmp_total, same_text, texts_ties};
+ghost use Rattle.std.proofs.Common.{ap, refl, sym, ◌∙◌};
 ghost use Rattle.mr_map.specs.Bytes.{bytes_cmp};
+ghost use Rattle.mr_map.specs.Hashing.{key_words};
 ghost use Rattle.mr_map.specs.Short.{if_short, part, room};
 
 use std::cmp::Ordering;
+use std::hash::{Hash, Hasher};
 use std::marker::Model;
 
 // How many bytes a short key has at most.
@@ -52,7 +54,8 @@ impl ShortKey {
 
     /// The bytes.
     pub fn as_slice(&self) -> &[u8]
-        ensures { result.now ≡ self.now }
+        ensures bytes { result.now ≡ self.now }
+        ensures few { length self.now ≤ room }
     {
         &self.bytes[..self.len as usize]
     }
@@ -76,15 +79,16 @@ fn word_at(bytes: &[u8], at: usize) -> u64
     ])
 }
 
-/// The number that the last bytes of a key's room spell with its length behind them.
+/// The number that the last bytes of a key's room spell with its length behind them: the eight bytes before the length are
+/// one word in memory, of which the first goes.
 #[inline]
 fn last_word(bytes: &[u8], len: u8) -> u64
     requires { length bytes.now ≡ room }
     ensures { result ≡ big_endian 0 (part 16 7 bytes.now ++ len ∷ []) }
 {
-    u64::from_be_bytes([
-        bytes[16], bytes[17], bytes[18], bytes[19], bytes[20], bytes[21], bytes[22], len,
-    ])
+    word_at(bytes, 15)
+        .wrapping_mul(256)
+        .wrapping_add(u64::from(len))
 }
 
 /// Compares padded keys, and then their lengths, as three numbers each.
@@ -141,5 +145,18 @@ impl Ord for ShortKey {
     #[inline]
     fn cmp(&self, other: &ShortKey) -> Ordering {
         order(&self.bytes, self.len, &other.bytes, other.len)
+    }
+}
+
+impl Hash for ShortKey {
+    ghost hash_input = { key_words };
+
+    ghost respects_eq = { λ x y tied. ap key_words (same_text x y (sym (texts_ties x y ∙ tied))) };
+
+    #[inline]
+    fn hash<H: Hasher>(&self, state: &mut H) {
+        state.write_u64(word_at(&self.bytes, 0));
+        state.write_u64(word_at(&self.bytes, 8));
+        state.write_u64(last_word(&self.bytes, self.len));
     }
 }

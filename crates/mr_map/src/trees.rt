@@ -11,7 +11,7 @@ use std::collections::BTreeMap;
 use std::marker::Model;
 
 // No more keys are taken than an isize counts. Each tree keeps to it, and both together do too.
-const MOST: usize = 0x7fff_ffff_ffff_ffff;
+pub(crate) const MOST: usize = 0x7fff_ffff_ffff_ffff;
 
 /// Two ordered trees. A key of at most 23 bytes lies in its tree itself, so that it takes no memory of its own, and a
 /// comparison touches no other.

@@ -6,8 +6,8 @@ use Rattle.mr_cmd_node.specs.declared.node_ask.NodeAsk.TheVariants as node
 use Rattle.mr_cmd_node.specs.declared.node_ask.ReplicaOption.{ReplicaOption}
 use Rattle.mr_outs.specs.Address.{AddressState}
 use Rattle.mr_outs.specs.Outs.{no_output}
-use Rattle.mr_planning.specs.Answered.{done}
-use Rattle.mr_plan.specs.Transactions.{discard_alone, exec_alone}
+use Rattle.mr_room.specs.Answered.{done}
+use Rattle.mr_commands.specs.Transactions.{discard_alone, exec_alone}
 use Rattle.mr_rows.specs.State.{Core}
 use Rattle.mr_rows.specs.Served.{IsQuiet, not_chained, says}
 use Rattle.mr_node.specs.Parts.{Keeps}

@@ -1,6 +1,7 @@
 -- Requests that waited are done one behind another, and their effects stand in the stream as one group.
 use Rattle.std.proofs.Common.{◌≡◌, ◌≢◌, ◌⊎◌, ◌+◌, ◌<◌, ◌≤◌, ◌++◌, ◌∷◌, ℕ, zero, suc, List, [], append-nil, append_assoc, drop, get_or, map, take, Global, Vec, Bool, true, false, Option, Some, length, not, refl, sym, ap, subst, ◌∙◌, inl, inr, arith}
 use Rattle.std.specs.Prelude.{Result, Ok, Err}
+use Rattle.std.specs.List.{AllByRecursion}
 use Rattle.std.proofs.lemmas.List.{get_or-map, length-append, take-append-drop, take_more}
 use Rattle.std.proofs.lemmas.List.Concat.{flat_map-append}
 use Rattle.std.specs.FinMap.{FinMap}
@@ -12,6 +13,7 @@ use Rattle.mr_resp.specs.Spelling.{number_line}
 use Rattle.mr_resp.specs.Usual.{usual}
 use Rattle.mr_entries.specs.Dataset.{Dataset}
 use Rattle.mr_effect.specs.Spelling.{text, texts}
+use Rattle.mr_entries.specs.Changes.{NeedsNoMemory}
 use Rattle.mr_effect.specs.declared.effect.Effect.{Effect}
 use Rattle.mr_data.specs.declared.given.Given.{Given}
 use Rattle.mr_data.specs.Meaning.{apply_all}
@@ -25,10 +27,10 @@ use Rattle.mr_ends.specs.State.EndState.{client, waiting}
 use Rattle.mr_ends.specs.Replicas.{Lists}
 use Rattle.mr_ends.proofs.Naming.{put_lists}
 use Rattle.mr_ends.proofs.Places.{get_put, put_put, put_same}
-use Rattle.mr_plan.specs.Requests.{HasPlan, IsPlain, left}
-use Rattle.mr_plan.specs.Transactions.{Does, DoesAll, FirstHasEffects, coming, ends, past_limit}
-use Rattle.mr_plan.specs.declared.transactions.Within.TheVariants as within
-use Rattle.mr_plan.proofs.Doing.{do_nothing, do_so, does_more, has_so, have_none, one_more, replied}
+use Rattle.mr_commands.specs.Requests.{HasPlan, IsPlain, left}
+use Rattle.mr_commands.specs.Transactions.{Does, DoesAll, FirstTakesMemory, coming, ends, past_limit}
+use Rattle.mr_commands.specs.declared.transactions.Within.TheVariants as within
+use Rattle.mr_commands.proofs.Doing.{do_nothing, do_so, does_more, has_so, have_none, one_more, replied}
 use Rattle.mr_outs.specs.Outs.{OutsState, no_outs}
 use Rattle.mr_rows.specs.State.{Core, NodeState, end_of, spent_as, stopped_as}
 use Rattle.mr_rows.specs.Growing.{FedTo, offset_limit}
@@ -150,14 +152,14 @@ module _ (a : NodeState) (given : Given) (words : List (List ℕ)) (before : Lis
               ∙ ap (λ (z : List ℕ). record old { grown = texts (before ++ over); appended = z; reply = old.reply ++ reply_text reply }) appended);
         }
 
-    pub spent_by : (b : NodeState) → Spends now over b → SpentBy a given words before m b
-    spent_by b s = record {
+    pub spent_by : (b : NodeState) → (AllByRecursion NeedsNoMemory over → ⊥) → Spends now over b → SpentBy a given words before m b
+    spent_by b heavy s = record {
       plain = plain;
       reply = reply;
       effects = over;
       plan = plan;
       fits = fits;
-      some = s.some;
+      heavy = heavy;
       held = s.held;
       spent = s.node ∙ ap (spent_as s.held) d.node;
     }
@@ -269,7 +271,7 @@ module _ (a : NodeState) (given : Given) (old : OutsState) where
     effects = d.effects;
     before = d.held;
     does = d.does;
-    some = inr (record { text = text; later = later; first = refl; words = words; request = asks; plain = s.plain; reply = s.reply; effects = s.effects; plan = s.plan; fits = s.fits; some = s.some });
+    some = inr (record { text = text; later = later; first = refl; words = words; request = asks; plain = s.plain; reply = s.reply; effects = s.effects; plan = s.plan; fits = s.fits; heavy = s.heavy });
     held = s.held;
     spent = same ∙ s.spent;
   }
@@ -497,7 +499,7 @@ module _ (a : NodeState) (l : LinkId) (t : Transaction) (u : List ℕ) (given : 
     spent = is ∙ (ap (λ (z : NodeState). with_ends z (put_end z.ends l (waiting t u))) s.spent ∙ ap (λ z. with_ends (spent_as s.held a) z) again);
   }
     where
-      had : (s.effects ≢ []) ⊎ FirstHasEffects (frame_of without_it) (not a.core.master) given s.left s.effects s.before → (s.effects ≢ []) ⊎ FirstHasEffects (frame_of a) (not a.core.master) given s.left s.effects s.before
+      had : (s.effects ≢ []) ⊎ FirstTakesMemory (frame_of without_it) (not a.core.master) given s.left s.effects s.before → (s.effects ≢ []) ⊎ FirstTakesMemory (frame_of a) (not a.core.master) given s.left s.effects s.before
       had (inl some) = inl some
       had (inr has) = inr (has_so (frame_of without_it) (frame_of a) (not a.core.master) given (λ es h. h) (λ es h. h) told_before s.left s.effects s.before has)
 

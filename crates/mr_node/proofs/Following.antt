@@ -31,8 +31,7 @@ module _ (a b : NodeState) (l : LinkId) (told : List ℕ) (followed : name_of a.
     told = told;
     listens = h.listens;
     named = named_at h.listens;
-    down = ap (λ (z : NodeState). z.core.up) h.node;
-    ends = ap (λ (z : NodeState). z.ends) h.node;
+    node = h.node;
   }
 
   pub hears_of : (step : UpstreamStep) (outs : OutsState) → a.core.up ≡ true → Heard a (Ok step) b told → outs ≡ outs_behind step l told → Hears a l step b outs

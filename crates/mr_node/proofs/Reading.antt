@@ -6,7 +6,8 @@ use Rattle.std.specs.Cmp.Derive.{both_true}
 use Rattle.std.proofs.lemmas.Bool.{le-leb}
 use Rattle.std.proofs.lemmas.List.{take-append-drop}
 use Rattle.std.proofs.lemmas.List.Elements.{recursion_from_All}
-use Rattle.mr_value.specs.Words.{fits}
+use Rattle.mr_bytes.specs.Words.{fits}
+use Rattle.mr_inline.specs.Limits.{word_limit}
 use Rattle.mr_resp.specs.ReplyView.{view}
 use Rattle.mr_resp.specs.Request.{IsRequest}
 use Rattle.mr_resp.specs.Resumed.{Agrees}
@@ -31,11 +32,11 @@ use Rattle.mr_cmd_node.specs.declared.node_ask.NodeAsk.{NodeAsk}
 use Rattle.mr_ask.specs.Asks.{asked}
 use Rattle.mr_ask.specs.declared.ask.Ask.{Ask}
 use Rattle.mr_ask.specs.declared.ask.Ask.TheVariants as ask
-use Rattle.mr_words.specs.declared.fault.AskFault.{AskFault}
-use Rattle.mr_plan.specs.Requests.{HasPlan, HasTexts, IsPlain, IsAnswerTo, IsPlannedAs, Leads, halting_by, halts, closes, left_by, question_by, quits, rewrites, rewriting_by}
-use Rattle.mr_plan.proofs.Questions.{halting_asks_nothing, quit_asks_nothing, rewriting_asks_nothing}
-use Rattle.mr_plan.specs.declared.requests.Answer.{Answer}
-use Rattle.mr_plan.specs.declared.requests.Answer.TheVariants as answer
+use Rattle.mr_arguments.specs.declared.fault.AskFault.{AskFault}
+use Rattle.mr_commands.specs.Requests.{HasPlan, HasTexts, IsPlain, IsAnswerTo, IsPlannedAs, Leads, halting_by, halts, closes, left_by, question_by, quits, rewrites, rewriting_by}
+use Rattle.mr_commands.proofs.Questions.{halting_asks_nothing, quit_asks_nothing, rewriting_asks_nothing}
+use Rattle.mr_commands.specs.declared.requests.Answer.{Answer}
+use Rattle.mr_commands.specs.declared.requests.Answer.TheVariants as answer
 use Rattle.mr_ends.specs.Progresses.{AgreesAlong}
 use Rattle.mr_rows.specs.ClientRows.{MayLack}
 use Rattle.mr_rows.specs.Requests.{Asks}
@@ -51,13 +52,13 @@ use Rattle.mr_node.specs.declared.todo.Todo.TheVariants as todo
 pub agrees_now : (p : Progress) (u : List ℕ) → AgreesAlong p u → Agrees usual p u
 agrees_now p u a = subst (λ z. Agrees usual p z) (append-nil u) (a.along [])
 
-within_by_recursion : (ws : List (List ℕ)) → AllByRecursion (λ (w : List ℕ). length w ≤ 16777216) ws → list_all fits ws ≡ true
+within_by_recursion : (ws : List (List ℕ)) → AllByRecursion (λ (w : List ℕ). length w ≤ word_limit) ws → list_all fits ws ≡ true
 within_by_recursion [] h = refl
-within_by_recursion (w ∷ ws) h = both_true (le-leb (length w) 16777216 h.0) (within_by_recursion ws h.1)
+within_by_recursion (w ∷ ws) h = both_true (le-leb (length w) word_limit h.0) (within_by_recursion ws h.1)
 
 -- words within the limit, by the test
-pub all_fit : (ws : List (List ℕ)) → All (λ (w : List ℕ). length w ≤ 16777216) ws → IsTrue (list_all fits ws)
-all_fit ws a = within_by_recursion ws (recursion_from_All (λ (w : List ℕ). length w ≤ 16777216) ws a)
+pub all_fit : (ws : List (List ℕ)) → All (λ (w : List ℕ). length w ≤ word_limit) ws → IsTrue (list_all fits ws)
+all_fit ws a = within_by_recursion ws (recursion_from_All (λ (w : List ℕ). length w ≤ word_limit) ws a)
 
 -- ---- what was read, within a server's limits
 pub read_as : {limits : Limits} {scan : Scan} (u : List ℕ) (what : Scan) → limits ≡ usual → scan ≡ what → scans.Reads limits u scan → scans.Reads usual u what

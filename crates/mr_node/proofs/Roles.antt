@@ -5,7 +5,7 @@ use Rattle.mr_links.specs.Links.{Links}
 use Rattle.mr_links.specs.declared.link_id.LinkId.{LinkId}
 use Rattle.mr_links.proofs.LinkRows.{ids_total}
 use Rattle.mr_resp.specs.Replies.{reply_text}
-use Rattle.mr_planning.specs.Answered.{done}
+use Rattle.mr_room.specs.Answered.{done}
 use Rattle.mr_cmd_node.specs.declared.node_ask.NodeAsk.TheVariants as node
 use Rattle.mr_data.specs.declared.given.Given.{Given}
 use Rattle.mr_repl.specs.Lineage.{renamed}

@@ -1,5 +1,6 @@
 -- From what the parts of a step do to the step's row.
 use Rattle.std.specs.Prelude.{All}
+use Rattle.std.specs.List.{AllByRecursion}
 use Rattle.std.specs.FinMap.{empty}
 use Rattle.std.proofs.Common.{◌≡◌, ◌<◌, ◌≤◌, ℕ, List, [], true, not, drop, map, Option, None, Some, refl, sym, ap, subst, ◌∙◌}
 use Rattle.std.proofs.lemmas.List.{length-map}
@@ -10,13 +11,14 @@ use Rattle.mr_resp.specs.ReplyView.{view}
 use Rattle.mr_resp.specs.declared.fault.Fault.{Fault}
 use Rattle.mr_entries.specs.Dataset.{Dataset}
 use Rattle.mr_effect.specs.Spelling.{texts, IsShort}
+use Rattle.mr_entries.specs.Changes.{NeedsNoMemory}
 use Rattle.mr_data.specs.Meaning.{apply_all}
 use Rattle.mr_data.specs.Rebuilding.{rebuilding}
 use Rattle.mr_data.specs.declared.given.Given.{Given}
 use Rattle.mr_data.specs.declared.plan.Plan.{Plan}
 use Rattle.mr_cmd_server.specs.declared.question.Question.{Question}
-use Rattle.mr_planning.specs.Answered.{done}
-use Rattle.mr_planning.proofs.Laws.{command_texts}
+use Rattle.mr_room.specs.Answered.{done}
+use Rattle.mr_room.proofs.Laws.{command_texts}
 use Rattle.mr_info.specs.declared.roles.Replica.{Replica}
 use Rattle.mr_ends.specs.State.EndState.{client, shut}
 use Rattle.mr_ends.specs.Replicas.{Lists}
@@ -153,7 +155,7 @@ within_row a mid b l u given fresh used p held fed at r within applied mid_is us
     some_held : (m n : Dataset) → ◌≡◌ {A = Option Dataset} (Some m) (Some n) → m ≡ n
     some_held m n e = cc
 
--- a node may stop at a request with effects
+-- a node may stop at a request with effects that take memory
 pub stops_of : (a : NodeState) (u : List ℕ) (given : Given) (used : ℕ) (p : Plan) → Runs (not a.core.master) u given a.core.held used p → offset_behind p.effects.items a.core ≤ offset_limit
-    → (p.effects.items ≡ [] → ⊥) → Stops a u given
-stops_of a u given used p r within some = record { words = r.words; rest = drop used u; asks = r.reads.asks; reply = view p.reply; effects = p.effects.items; plan = r.plan; within = within; some = some }
+    → (AllByRecursion NeedsNoMemory p.effects.items → ⊥) → Stops a u given
+stops_of a u given used p r within heavy = record { words = r.words; rest = drop used u; asks = r.reads.asks; reply = view p.reply; effects = p.effects.items; plan = r.plan; within = within; heavy = heavy }

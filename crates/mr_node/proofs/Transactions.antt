@@ -9,11 +9,11 @@ use Rattle.mr_resp.specs.Request.{IsRequest}
 use Rattle.mr_resp.specs.Usual.{usual}
 use Rattle.mr_data.specs.declared.given.Given.{Given}
 use Rattle.mr_cmd_node.specs.declared.node_ask.NodeAsk.TheVariants as node
-use Rattle.mr_planning.specs.Answered.{done}
-use Rattle.mr_plan.proofs.Comings.{by_quit}
-use Rattle.mr_plan.specs.Transactions.{Coming, waits, marks, nests, drops, ends, quits as leaves, coming, queued, nested, aborted, IsWithin}
-use Rattle.mr_plan.specs.declared.transactions.Within.{Within}
-use Rattle.mr_plan.specs.declared.transactions.Within.TheVariants as within
+use Rattle.mr_room.specs.Answered.{done}
+use Rattle.mr_commands.proofs.Comings.{by_quit}
+use Rattle.mr_commands.specs.Transactions.{Coming, waits, marks, nests, drops, ends, quits as leaves, coming, queued, nested, aborted, IsWithin}
+use Rattle.mr_commands.specs.declared.transactions.Within.{Within}
+use Rattle.mr_commands.specs.declared.transactions.Within.TheVariants as within
 use Rattle.mr_ends.specs.State.{CanWait, Transaction, as_marked, begun, put_end, with_text}
 use Rattle.mr_ends.specs.State.EndState.{client, waiting}
 use Rattle.mr_outs.specs.Outs.{no_outs}

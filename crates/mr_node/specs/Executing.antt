@@ -1,17 +1,19 @@
 -- What waited is done as one, part by part.
 use Rattle.std.specs.Prelude.{◌≡◌, ◌≢◌, ◌⊎◌, ◌++◌, ◌∷◌, ℕ, zero, suc, List, [], true, false, not, None, Some, Result, Ok, Err, length}
+use Rattle.std.specs.List.{AllByRecursion}
 use Rattle.mr_links.specs.declared.link_id.LinkId.{LinkId}
 use Rattle.mr_resp.specs.Replies.{Tree, array, replies_text, reply_text}
 use Rattle.mr_resp.specs.ReplyView.{view}
 use Rattle.mr_entries.specs.Dataset.{Dataset}
 use Rattle.mr_effect.specs.Spelling.{texts}
+use Rattle.mr_entries.specs.Changes.{NeedsNoMemory}
 use Rattle.mr_effect.specs.declared.effect.Effect.{Effect}
 use Rattle.mr_data.specs.declared.given.Given.{Given}
 use Rattle.mr_cmd_server.specs.declared.question.Question.{Question}
 use Rattle.mr_groups.specs.Groups.{grown_text}
 use Rattle.mr_repl.specs.Lineage.{grown}
-use Rattle.mr_plan.specs.Requests.{HasPlan, IsPlain, question_in, quits}
-use Rattle.mr_plan.specs.Transactions.{Does, DoesAll, FirstHasEffects, not_allowed}
+use Rattle.mr_commands.specs.Requests.{HasPlan, IsPlain, question_in, quits}
+use Rattle.mr_commands.specs.Transactions.{Does, DoesAll, FirstTakesMemory, not_allowed}
 use Rattle.mr_outs.specs.Outs.{OutsState}
 use Rattle.mr_rows.specs.State.{NodeState, spent_as, stopped_as}
 use Rattle.mr_state.specs.Parts.{streams_on}
@@ -80,7 +82,7 @@ pub record SpentBy (a : NodeState) (given : Given) (words : List (List ℕ)) (be
   pub effects : List Effect
   pub plan : HasPlan (not a.core.master) m words given reply effects
   pub fits : (frame_of a).Fits (before ++ effects)
-  pub some : effects ≢ []
+  pub heavy : AllByRecursion NeedsNoMemory effects → ⊥
   pub held : Dataset
   pub spent : b ≡ spent_as held a
 
@@ -115,7 +117,7 @@ pub record DidAll (a : NodeState) (given : Given) (requests : List (List ℕ)) (
   pub counted : count ≡ length effects
   pub outs_are : outs ≡ put_out effects (first.reply ++ replies_text (as_trees replies)) first
 
--- Memory ran out within them: those in front were done, and they had effects, or the next has.
+-- Memory ran out within them: those in front were done, and they had effects, or those of the next take some.
 pub record StoppedWithin (a : NodeState) (given : Given) (requests : List (List ℕ)) (b : NodeState) : Type 0 where
   pub done_first : List (List ℕ)
   pub left : List (List ℕ)
@@ -124,7 +126,7 @@ pub record StoppedWithin (a : NodeState) (given : Given) (requests : List (List 
   pub effects : List Effect
   pub before : Dataset
   pub does : DoesAll (frame_of a) (not a.core.master) given done_first [] a.core.held replies effects before
-  pub some : (effects ≢ []) ⊎ FirstHasEffects (frame_of a) (not a.core.master) given left effects before
+  pub some : (effects ≢ []) ⊎ FirstTakesMemory (frame_of a) (not a.core.master) given left effects before
   pub held : Dataset
   pub spent : b ≡ spent_as held a
 

@@ -5,7 +5,7 @@ use Rattle.mr_ends.specs.State.{full}
 use Rattle.mr_ends.specs.Progresses.{AgreesAlong}
 use Rattle.mr_rows.specs.Requests.{Asks, Waits}
 use Rattle.mr_rows.specs.ReplicaRows.{IsUnwanted}
-use Rattle.mr_plan.specs.Requests.{AsksNode}
+use Rattle.mr_commands.specs.Requests.{AsksNode}
 use Rattle.mr_node.specs.Reading.{Passes, Wishes}
 use Rattle.mr_node.specs.declared.noted.Noted.{Noted}
 use Rattle.mr_node.specs.declared.noted.Noted.TheVariants as noted

@@ -7,9 +7,9 @@ use Rattle.mr_data.specs.declared.plan.Plan.{Plan}
 use Rattle.mr_cmd_server.specs.declared.question.Question.{Question}
 use Rattle.mr_cmd_node.specs.declared.node_ask.NodeAsk.{NodeAsk}
 use Rattle.mr_cmd_node.specs.declared.node_ask.NodeAsk.TheVariants as node
-use Rattle.mr_plan.specs.Requests.{AsksNode, HasPlan, IsPlain, halts, question_in, quits, rewrites}
-use Rattle.mr_plan.specs.declared.requests.Answer.{Answer}
-use Rattle.mr_plan.specs.declared.requests.Answer.TheVariants as answer
+use Rattle.mr_commands.specs.Requests.{AsksNode, HasPlan, IsPlain, halts, question_in, quits, rewrites}
+use Rattle.mr_commands.specs.declared.requests.Answer.{Answer}
+use Rattle.mr_commands.specs.declared.requests.Answer.TheVariants as answer
 use Rattle.mr_ends.specs.State.{full}
 use Rattle.mr_ends.specs.Progresses.{AgreesAlong}
 use Rattle.mr_rows.specs.Requests.{Asks, AsksNothing, Waits, IsDoomedBy}

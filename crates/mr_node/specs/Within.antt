@@ -4,8 +4,8 @@ use Rattle.mr_links.specs.declared.link_id.LinkId.{LinkId}
 use Rattle.mr_resp.specs.Replies.{Tree}
 use Rattle.mr_entries.specs.Dataset.{Dataset}
 use Rattle.mr_data.specs.declared.given.Given.{Given}
-use Rattle.mr_plan.specs.Transactions.{coming, IsWithin}
-use Rattle.mr_plan.specs.declared.transactions.Within.{Within}
+use Rattle.mr_commands.specs.Transactions.{coming, IsWithin}
+use Rattle.mr_commands.specs.declared.transactions.Within.{Within}
 use Rattle.mr_ends.specs.State.{Transaction, full}
 use Rattle.mr_ends.specs.Progresses.{AgreesAlong}
 use Rattle.mr_rows.specs.State.{AgreesWithin, NodeState, spent_as}

@@ -2,7 +2,7 @@
 ghost use Rattle.std.specs.Prelude.{◌≡◌, ◌<◌, ◌≤◌, length, map, IsTrue, IfOk, OnErr};
 ghost use Rattle.std.specs.List.{list_all};
 ghost use Rattle.std.specs.Cow.{cow_slice_items};
-ghost use Rattle.mr_value.specs.Words.{fits};
+ghost use Rattle.mr_bytes.specs.Words.{fits};
 ghost use Rattle.mr_resp.specs.Usual.{commands};
 ghost use Rattle.mr_ends.specs.Progresses.{AgreesAlong};
 ghost use Rattle.mr_rows.specs.ClientRows.{MayLack};
@@ -11,8 +11,8 @@ ghost use Rattle.mr_node.specs.Reading.{IsTodo, KeepsAlong, IsDone, carry_out};
 use crate::request::{NodeRequest, request_of};
 use mr_ask::{Ask, read};
 use mr_cmd_server::Question;
+use mr_commands::{Answer, answer_to};
 use mr_data::{Dataset, Given, Plan};
-use mr_plan::{Answer, answer_to};
 use mr_resp::{Fault, Limits, Progress, Scan, more_is_wanted, next_request_from, words_fit};
 use std::alloc::{AllocError, Global};
 use std::borrow::CowSlice;

@@ -2,12 +2,12 @@
 ghost use Rattle.std.specs.Prelude.{◌≡◌, ◌<◌, map, length, IfOk, OnErr};
 ghost use Rattle.std.specs.Cow.{cow_slice_items};
 ghost use Rattle.mr_ends.specs.Progresses.{AgreesAlong};
-ghost use Rattle.mr_plan.specs.Transactions.{IsWithin, coming};
+ghost use Rattle.mr_commands.specs.Transactions.{IsWithin, coming};
 ghost use Rattle.mr_rows.specs.ClientRows.{MayLack};
 ghost use Rattle.mr_node.specs.Within.{IsTodoWithin, KeepsAlong};
 
 use mr_ask::read;
-use mr_plan::{Within, comes_to};
+use mr_commands::{Within, comes_to};
 use mr_resp::{Fault, Limits, Progress, Scan, more_is_wanted, next_request_from};
 use std::alloc::{AllocError, Global};
 use std::borrow::CowSlice;

@@ -5,8 +5,8 @@ use Rattle.std.specs.Fmt.{signed_decimal}
 use Rattle.std.proofs.lemmas.Bool.{lt-ltb}
 use Rattle.std.proofs.lemmas.Int.{ints, to_z-of_z}
 use Rattle.clap.specs.Words.{Text}
-use Rattle.mr_value.specs.Number.{is_i64, number_of}
-use Rattle.mr_value.proofs.Numbers.{number_of-signed_decimal}
+use Rattle.mr_bytes.specs.Number.{is_i64, number_of}
+use Rattle.mr_bytes.proofs.Numbers.{number_of-signed_decimal}
 use Rattle.mr_options.specs.Values.{IsPort}
 use Rattle.mr_options.proofs.Rows.{some_of}
 

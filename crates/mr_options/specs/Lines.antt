@@ -24,10 +24,11 @@ pipe_line =
     (number_rule (codes "word") 0 (2 ^ 64 - 1)))
     (text_rule (codes "aof"))
 
--- `serve --port P [--aof PATH] [--sync MODE] [--turns N] [--backlog N] [--replicaof HOST:PORT] [--bind ADDRESS]`
+-- `serve --port P [--aof PATH] [--sync MODE] [--turns N] [--backlog N] [--replicaof HOST:PORT] [--bind ADDRESS] [--repl-timeout N]`
 abbrev pub serve_line : App
 serve_line =
     with_rule
+    (with_rule
     (with_rule
     (with_rule
     (with_rule
@@ -37,7 +38,8 @@ serve_line =
     (number_rule (codes "turns") 0 (2 ^ 64 - 1)))
     (number_rule (codes "backlog") 1 (2 ^ 30)))
     (text_rule (codes "replicaof")))
-    (text_rule (codes "bind"))
+    (text_rule (codes "bind")))
+    (number_rule (codes "repl-timeout") 1 86400)
 
 -- `trio`, which has no options
 abbrev pub trio_line : App

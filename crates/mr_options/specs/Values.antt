@@ -6,6 +6,7 @@ use Rattle.std.specs.Str.Parse.{ParsesUnsigned}
 use Rattle.std.specs.declared.net.ipv4_addr.Ipv4Addr.{Ipv4Addr}
 use Rattle.std.specs.declared.num.ParseIntError.{ParseIntError}
 use Rattle.clap.specs.Words.{Row, Text, first_of, one_of}
+use Rattle.mr_repl.specs.Backlog.{usual_backlog}
 use Rattle.mr_repl.specs.ReplId.{IsId, digits_of}
 use Rattle.mr_file.specs.declared.sync_mode.SyncMode.{SyncMode}
 use Rattle.mr_file.specs.declared.sync_mode.SyncMode.TheVariants.{Always, No}
@@ -24,9 +25,9 @@ usual_pipe = record { id = replicate 20 170; now = pos 0; word = 0; aof = None }
 abbrev pub usual_turns : ℕ
 usual_turns = 1000000000000
 
--- so many bytes of its stream a node keeps for its replicas, where the line doesn't say
-abbrev pub usual_backlog : ℕ
-usual_backlog = 1048576
+-- so many seconds a peer of replication may be silent, where the line doesn't say
+abbrev pub usual_timeout : ℕ
+usual_timeout = 60
 
 -- the number whose text this is, or the usual one where there is none
 abbrev pub IsNumber : Option Text → ℕ → ℕ → Type 0
@@ -115,6 +116,7 @@ pub record AreServeOf (rows : List Row) (options : ServeOptions) : Type 0 where
   pub backlog : HasNumber rows (codes "backlog") usual_backlog options.backlog
   pub master : HasMaster rows options.master
   pub bind : HasAddress rows options.bind
+  pub timeout : HasNumber rows (codes "repl-timeout") usual_timeout options.timeout
 
 -- the value of the option of `world`, which the line names, or else the usual one
 abbrev pub AreWorldOf : List Row → WorldOptions → Type 0
@@ -125,12 +127,13 @@ pub record PipeNumbersPass (rows : List Row) : Type 0 where
   pub now : (n : ℕ) × ((n ≤ 2 ^ 61) × HasNumber rows (codes "now") 0 n)
   pub word : (n : ℕ) × HasNumber rows (codes "word") 0 n
 
--- the parser lets through a port within its range, and never none; a number of turns, or none; and a backlog within its
--- range, or none
+-- the parser lets through a port within its range, and never none; a number of turns, or none; and a backlog and a timeout
+-- within their ranges, or none
 pub record ServeNumbersPass (rows : List Row) : Type 0 where
   pub port : (n : ℕ) × ((1 ≤ n) × (n ≤ 65535) × NamesNumber rows (codes "port") n)
   pub turns : (n : ℕ) × HasNumber rows (codes "turns") usual_turns n
   pub backlog : (n : ℕ) × ((1 ≤ n) × (n ≤ 2 ^ 30) × HasNumber rows (codes "backlog") usual_backlog n)
+  pub timeout : (n : ℕ) × ((1 ≤ n) × (n ≤ 86400) × HasNumber rows (codes "repl-timeout") usual_timeout n)
 
 -- the parser lets through a backlog within its range, or none
 abbrev pub WorldNumbersPass : List Row → Type 0
@@ -141,7 +144,7 @@ abbrev pub IsInRange : Options → Type 0
 IsInRange (Pipe options) = (pos 0 ≤ℤ options.now) × (options.now ≤ℤ pos (2 ^ 61)) × (options.word < 2 ^ 64)
 IsInRange (Serve options) =
     (1 ≤ options.port) × (options.port ≤ 65535) × (options.turns < 2 ^ 64) × (1 ≤ options.backlog) × (options.backlog ≤ 2 ^ 30)
-    × IfSome options.master (λ master. IsPort master.port)
+    × IfSome options.master (λ master. IsPort master.port) × (1 ≤ options.timeout) × (options.timeout ≤ 86400)
 IsInRange Trio = Unit {0}
 IsInRange (World options) = (1 ≤ options.backlog) × (options.backlog ≤ 2 ^ 30)
 

@@ -6,16 +6,17 @@ ghost use Rattle.mr_options.specs.Lines.{bare, line, needed, number_rule, pipe_l
 
 use clap::builder::ValueParser;
 use clap::{Arg, Command};
+use mr_repl::MOST_BACKLOG;
 use std::alloc::{AllocError, Global};
 
 /// The greatest time, in milliseconds.
 const MOST_NOW: u64 = 1 << 61;
 
-/// The greatest number of bytes that a node keeps for its replicas.
-const MOST_BACKLOG: u64 = 1 << 30;
-
 /// The greatest port.
 const MOST_PORT: u64 = 65_535;
+
+/// The longest time that a peer of replication may be silent, in seconds: a day.
+const MOST_TIMEOUT: u64 = 86_400;
 
 /// A number from `least` to `most`.
 fn number_option<'a>(alloc: Global, name: &'a str, least: u64, most: u64) -> Arg<'a>
@@ -90,9 +91,10 @@ fn serve_command<'a>(alloc: Global) -> Result<Command<'a>, AllocError>
     let kept = with_text(met, alloc, "aof")?;
     let synced = with_text(kept, alloc, "sync")?;
     let ended = with_number(synced, alloc, "turns", 0, u64::MAX)?;
-    let held = with_number(ended, alloc, "backlog", 1, MOST_BACKLOG)?;
+    let held = with_number(ended, alloc, "backlog", 1, MOST_BACKLOG as u64)?;
     let led = with_text(held, alloc, "replicaof")?;
-    with_text(led, alloc, "bind")
+    let bound = with_text(led, alloc, "bind")?;
+    with_number(bound, alloc, "repl-timeout", 1, MOST_TIMEOUT)
 }
 
 /// The subcommand `world` with its option.
@@ -105,7 +107,7 @@ fn world_command<'a>(alloc: Global) -> Result<Command<'a>, AllocError>
         alloc,
         "backlog",
         1,
-        MOST_BACKLOG,
+        MOST_BACKLOG as u64,
     )
 }
 

@@ -59,6 +59,8 @@ pub struct ServeOptions<'a> {
     pub master: Option<Master<'a>>,
     /// The address at which clients are met.
     pub bind: Ipv4Addr,
+    /// A peer of replication that is silent for so many seconds is given up, from 1 to 86,400.
+    pub timeout: u64,
 }
 
 /// The options of `world`: nodes and the links between them, asked by a script on standard input.

@@ -4,7 +4,7 @@ ghost use Rattle.clap.specs.Words.{Text};
 ghost use Rattle.mr_options.specs.Values.{IsPort, Names, master_text};
 
 use crate::line::Master;
-use mr_value::read_i64;
+use mr_bytes::read_i64;
 
 /// The port that a text spells, without a sign or a leading zero.
 fn port_of(text: &str) -> Option<u16>

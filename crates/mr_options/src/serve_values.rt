@@ -11,13 +11,14 @@ use crate::named_master::master_named;
 use crate::values::{needed_number_of, number_of, path_of};
 use clap::ArgMatches;
 use mr_file::SyncMode;
+use mr_repl::USUAL_BACKLOG;
 use std::net::Ipv4Addr;
 
 /// After so many turns `serve` ends, where the line doesn't say.
 const USUAL_TURNS: u64 = 1_000_000_000_000;
 
-/// So many bytes a node keeps for its replicas, where the line doesn't say.
-pub(crate) const USUAL_BACKLOG: u64 = 1_048_576;
+/// So many seconds a peer of replication may be silent, where the line doesn't say.
+const USUAL_TIMEOUT: u64 = 60;
 
 /// Whether each append is synced.
 fn mode_of(matches: &ArgMatches<'_>) -> Result<SyncMode, UsageFault>
@@ -73,7 +74,8 @@ pub(crate) fn serve_of<'a>(matches: &ArgMatches<'a>) -> Result<ServeOptions<'a>,
     let port = needed_number_of(matches, "port");
     let aof = path_of(matches);
     let turns = number_of(matches, "turns", USUAL_TURNS);
-    let backlog = number_of(matches, "backlog", USUAL_BACKLOG);
+    let backlog = number_of(matches, "backlog", USUAL_BACKLOG as u64);
+    let timeout = number_of(matches, "repl-timeout", USUAL_TIMEOUT);
     Ok(ServeOptions {
         port: port as u16,
         aof,
@@ -82,5 +84,6 @@ pub(crate) fn serve_of<'a>(matches: &ArgMatches<'a>) -> Result<ServeOptions<'a>,
         backlog: backlog as usize,
         master,
         bind,
+        timeout,
     })
 }

@@ -4,9 +4,9 @@ ghost use Rattle.mr_options.specs.Values.{AreWorldOf, IsInRange, WorldNumbersPas
 ghost use Rattle.mr_options.specs.declared.line.Options.TheVariants.{World};
 
 use crate::line::WorldOptions;
-use crate::serve_values::USUAL_BACKLOG;
 use crate::values::number_of;
 use clap::ArgMatches;
+use mr_repl::USUAL_BACKLOG;
 
 /// The values of `world`.
 pub(crate) fn world_of(matches: &ArgMatches<'_>) -> WorldOptions
@@ -14,7 +14,7 @@ pub(crate) fn world_of(matches: &ArgMatches<'_>) -> WorldOptions
     ensures values { AreWorldOf (rows_of (found_of matches.now)) result }
     ensures range { IsInRange (World result) }
 {
-    let backlog = number_of(matches, "backlog", USUAL_BACKLOG);
+    let backlog = number_of(matches, "backlog", USUAL_BACKLOG as u64);
     WorldOptions {
         backlog: backlog as usize,
     }

@@ -1,10 +1,11 @@
 // A chunk: items in one vector.
-ghost use Rattle.std.specs.Prelude.{◌+◌, ◌≤◌, length, nat_le};
+ghost use Rattle.std.specs.Prelude.{◌≡◌, ◌+◌, ◌≤◌, length, nat_le};
 
 use crate::part::Part;
 use crate::query::{Query, Steps};
 use crate::seek::seek;
 use std::alloc::{AllocError, Global};
+use std::mem::replace;
 
 // A chunk has no more items.
 const CHUNK: usize = 64;
@@ -24,7 +25,7 @@ impl<T: Ord + Drop> Part for Vec<T> {
     ghost fits = { λ c next. nat_le (length c.items + length next.items) 32 };
 
     fn one(alloc: Global, item: T) -> Result<Self, AllocError> {
-        let mut chunk = Vec::new(alloc);
+        let mut chunk = Vec::with_capacity(alloc, 1)?;
         chunk.push(item)?;
         Ok(chunk)
     }
@@ -50,6 +51,7 @@ impl<T: Ord + Drop> Part for Vec<T> {
     }
 
     fn insert(&mut self, at: usize, item: T) -> Result<(), AllocError> {
+        make_room(self)?;
         Vec::insert(self, at, item)?;
         Ok(())
     }
@@ -58,14 +60,15 @@ impl<T: Ord + Drop> Part for Vec<T> {
         match self.locate(&item) {
             Ok(_) => Ok(false),
             Err(at) => {
+                make_room(self)?;
                 Vec::insert(self, at, item)?;
                 Ok(true)
             }
         }
     }
 
-    fn set(&mut self, at: usize, item: T) {
-        self[at] = item;
+    fn set(&mut self, at: usize, item: T) -> T {
+        replace(&mut self[at], item)
     }
 
     fn remove(&mut self, at: usize) -> T {
@@ -121,4 +124,16 @@ impl<T: Ord + Drop> Part for Vec<T> {
     fn run_to(&self, at: usize) -> &[T] {
         &self[..at]
     }
+}
+
+/// Makes room for a further item where there is none: for a quarter more, and for no more than a chunk has. So few slots lie
+/// idle in a small collection, where a vector by itself doubles.
+fn make_room<T>(chunk: &mut Vec<T>) -> Result<(), AllocError>
+    ensures { chunk.new.items ≡ chunk.old.items }
+{
+    let len = Vec::len(chunk);
+    if len < chunk.capacity() {
+        return Ok(());
+    }
+    chunk.reserve_exact((len / 4 + 1).min(CHUNK.saturating_sub(len)))
 }

@@ -106,8 +106,8 @@ impl<P: Part> Part for Level<P> {
         }
     }
 
-    fn set(&mut self, at: usize, item: P::Item) {
-        set(&mut self.parts, at, item);
+    fn set(&mut self, at: usize, item: P::Item) -> P::Item {
+        set(&mut self.parts, at, item)
     }
 
     fn remove(&mut self, at: usize) -> P::Item {

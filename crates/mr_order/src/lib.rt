@@ -1,9 +1,9 @@
 //! Items in order, in chunks of vectors, each found by its place.
 //!
-//! [`Ordered`] keeps items in strict order; [`Places`] is the list below it. Both are seen as lists. A list begins as one chunk of
-//! at most 64 items. Once it needs more it is chunks in levels of at most 32 parts, each of which knows how many items it has, so
-//! that an item is found by its place, put in and taken past some dozens of parts. A search halves the places, and is compared
-//! with as few items as a search in an array.
+//! [`Ordered`] keeps items in strict order, and is seen as a list. It begins as one chunk of at most 64 items. Once it needs more
+//! it is chunks in levels of at most 32 parts, each of which knows how many items it has, so that an item is found by its place,
+//! put in and taken past some dozens of parts. A search halves the places, and is compared with as few items as a search in an
+//! array.
 #![tactic(auto)]
 
 mod chunk;
@@ -24,5 +24,4 @@ mod shrink;
 
 pub use iter::Iter;
 pub use ordered::Ordered;
-pub use places::Places;
 pub use query::{Query, Steps};

@@ -169,13 +169,14 @@ impl<T: Ord + Drop> Ordered<T> {
         Ok(())
     }
 
-    /// Puts an item in the place of an equal one. It takes no memory.
-    pub fn replace_at(&mut self, at: usize, item: T)
+    /// Puts an item in the place of an equal one, which it answers. It takes no memory.
+    pub fn replace_at(&mut self, at: usize, item: T) -> T
         requires within { at < length self.old }
         requires equal { T.cmp item (slice_index_or self.old at item) ≡ Equal }
-        ensures { self.new ≡ set self.old at item }
+        ensures replaced { self.new ≡ set self.old at item }
+        ensures before { result ≡ slice_index_or self.old at result }
     {
-        self.places.set(at, item);
+        self.places.set(at, item)
     }
 
     /// Takes the item from a place.

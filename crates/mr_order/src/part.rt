@@ -77,12 +77,13 @@ pub(crate) trait Part: Drop {
         ensures ok { IfOk result (λ added. IsPut (Self.Item.cmp item) (items self.old) item (items self.new) added) }
         ensures err { OnErr result (items self.new ≡ items self.old) };
 
-    /// Puts an item in the place of another.
-    fn set(&mut self, at: usize, item: Self::Item)
+    /// Puts an item in the place of another, which it answers.
+    fn set(&mut self, at: usize, item: Self::Item) -> Self::Item
         requires kept { is_kept self.old }
         requires within { at < length (items self.old) }
         ensures kept { is_kept self.new }
-        ensures set { items self.new ≡ set (items self.old) at item };
+        ensures set { items self.new ≡ set (items self.old) at item }
+        ensures before { result ≡ slice_index_or (items self.old) at result };
 
     /// Takes the item from a place.
     fn remove(&mut self, at: usize) -> Self::Item

@@ -21,7 +21,7 @@ use std::marker::Model;
 
 /// A list of items. An item is found by its place, put in and taken without a walk over all items.
 #[derive(Drop)]
-pub struct Places<T: Ord + Drop> {
+pub(crate) struct Places<T: Ord + Drop> {
     root: Root<T>,
 }
 
@@ -122,10 +122,11 @@ impl<T: Ord + Drop> Places<T> {
         }
     }
 
-    /// Puts an item in the place of another. It takes no memory.
-    pub fn set(&mut self, at: usize, item: T)
+    /// Puts an item in the place of another, which it answers. It takes no memory.
+    pub fn set(&mut self, at: usize, item: T) -> T
         requires { at < length self.old }
-        ensures { self.new ≡ set self.old at item }
+        ensures set { self.new ≡ set self.old at item }
+        ensures before { result ≡ slice_index_or self.old at result }
     {
         match &mut self.root {
             Root::Chunk(chunk) => Part::set(chunk, at, item),

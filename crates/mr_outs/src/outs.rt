@@ -9,7 +9,7 @@ ghost use Rattle.mr_effect.specs.declared.effect.Effect.TheVariants as effect;
 ghost use Rattle.mr_outs.specs.Outs.{no_outs, outs_of};
 
 use crate::address::Address;
-use crate::buffers::Buffers;
+use crate::buffers::{Buffers, spare};
 use crate::out::OutsIter;
 use mr_effect::{Effect, encode, encode_all};
 use mr_links::LinkId;
@@ -231,9 +231,9 @@ impl Outs {
         } = self;
         Buffers {
             alloc,
-            texts,
+            texts: spare(alloc, texts),
             fed,
-            reply,
+            reply: spare(alloc, reply),
         }
     }
 }

@@ -13,9 +13,9 @@ use Rattle.mr_data.specs.declared.given.Given.{Given}
 use Rattle.mr_groups.specs.Groups.{as_group, grown_text}
 use Rattle.mr_groups.specs.Folding.{LeadsByGroups, MakesByGroups}
 use Rattle.mr_groups.proofs.Runs.{leads_nowhere}
-use Rattle.mr_groups.proofs.Going.{leads_further}
-use Rattle.mr_groups.proofs.Singles.{leads_applied}
-use Rattle.mr_plan.specs.Transactions.{Frame, DoesAll}
+use Rattle.mr_groups.proofs.Going.{makes_further}
+use Rattle.mr_groups.proofs.Singles.{leads_applied, makes_applied}
+use Rattle.mr_commands.specs.Transactions.{Frame, DoesAll}
 use Rattle.mr_language.proofs.GoodGroups.{good_effects, good_as_group, as_group_applied, as_group_texts}
 use Rattle.mr_language.proofs.Waited.{sound_all}
 use Rattle.mr_ends.specs.State.{Transaction}
@@ -66,11 +66,11 @@ served_folds c around u g d rest out (Served.request words asks (Answered.within
     let p = texts effects in
     subst (λ (o : Output). MakesByGroups (followed (changes_of o) xs) d.held) (sym out_is)
     (subst (λ z. MakesByGroups z d.held) (sym (followed_texts p xs))
-    (leads_further xs p empty c.held d.held f (leads_applied effects c.held d.held (plan.leads ∙ ap (λ (k : Core). Some k.held) (sym d_is)) plan.short)))
+    (makes_further xs p c.held d.held f (leads_applied effects c.held d.held (plan.leads ∙ ap (λ (k : Core). Some k.held) (sym d_is)) plan.short)))
 served_folds c around u g d rest out (Served.request words asks (Answered.beyond plain reply effects plan lt d_is out_is)) xs f = folds_on (changes_of out) c d xs (ap changes_of out_is) d_is f
 served_folds c around u g d rest out (Served.request words asks (Answered.rewritten is remakes d_is out_is)) xs f =
     subst (λ (o : Output). MakesByGroups (followed (changes_of o) xs) d.held) (sym out_is)
-    (leads_applied (rebuilding c.held) empty d.held (remakes.again ∙ ap (λ (k : Core). Some k.held) (sym d_is)) remakes.short)
+    (makes_applied (rebuilding c.held) d.held (remakes.again ∙ ap (λ (k : Core). Some k.held) (sym d_is)) remakes.short)
 served_folds c around u g d rest out (Served.request words asks (Answered.tells question asked d_is out_is)) xs f = folds_on (changes_of out) c d xs (ap changes_of out_is) d_is f
 served_folds c around u g d rest out (Served.request words asks (Answered.keeps_role wish asked quiet d_is)) xs f = folds_on (changes_of out) c d xs (quiet_leaves c wish out quiet) d_is f
 served_folds c around u g d rest out (Served.nothing asks d_is out_is) xs f = folds_on (changes_of out) c d xs (ap changes_of out_is) d_is f
@@ -111,7 +111,7 @@ within_folds g s held u t rest out (IsServedWithin.executes words asks runs whol
     let p = grown_text effects in
     subst (λ (o : Output). MakesByGroups (followed (changes_of o) xs) t.core.held) (sym gives)
     (subst (λ z. MakesByGroups z t.core.held) (sym (followed_texts p xs))
-    (leads_further xs p empty s.core.held t.core.held f (executed_leads g s held t replies effects left does (ap (λ (z : PipeState). z.core.held) is))))
+    (makes_further xs p s.core.held t.core.held f (executed_leads g s held t replies effects left does (ap (λ (z : PipeState). z.core.held) is))))
 
 one_folds : (g : Given) (s : PipeState) (u : List ℕ) (t : PipeState) (rest : List ℕ) (out : Output) → IsServed g s u t rest out → (xs : List ℕ) → MakesByGroups xs s.core.held → MakesByGroups (followed (changes_of out) xs) t.core.held
 one_folds g s u t rest out (IsServed.serves k n d h is) xs f = subst (λ (z : PipeState). MakesByGroups (followed (changes_of out) xs) z.core.held) (sym is) (served_folds s.core alone u g d rest out h xs f)
@@ -204,7 +204,7 @@ served_torn c around u g d rest out a b xs (Served.request words asks (Answered.
     (subst (λ (o : Output). IsTorn a b (changes_of o)) out_is t)
 served_torn c around u g d rest out a b xs (Served.request words asks (Answered.beyond plain reply effects plan lt d_is out_is)) h f t = torn_nothing (changes_of out) a b (ap changes_of out_is) t
 served_torn c around u g d rest out a b xs (Served.request words asks (Answered.rewritten is remakes d_is out_is)) h f t =
-    torn_whole (texts (rebuilding c.held)) a b c.held c.held xs h f (leads_applied (rebuilding c.held) empty c.held remakes.again remakes.short)
+    torn_whole (texts (rebuilding c.held)) a b c.held c.held xs h f (makes_applied (rebuilding c.held) c.held remakes.again remakes.short)
     (subst (λ (o : Output). IsTorn a b (changes_of o)) out_is t)
 served_torn c around u g d rest out a b xs (Served.request words asks (Answered.tells question asked d_is out_is)) h f t = torn_nothing (changes_of out) a b (ap changes_of out_is) t
 served_torn c around u g d rest out a b xs (Served.request words asks (Answered.keeps_role wish asked quiet d_is)) h f t = torn_nothing (changes_of out) a b (quiet_leaves c wish out quiet) t

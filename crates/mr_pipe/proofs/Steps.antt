@@ -16,12 +16,13 @@ use Rattle.mr_entries.specs.Dataset.{Dataset}
 use Rattle.mr_course.specs.State.{name_of}
 use Rattle.mr_groups.specs.Groups.{grown_text}
 use Rattle.mr_resp.specs.Replies.{Tree}
-use Rattle.mr_plan.specs.Transactions.{DoesAll, coming}
-use Rattle.mr_plan.proofs.Doing.{do_so}
+use Rattle.mr_commands.specs.Transactions.{DoesAll, coming}
+use Rattle.mr_commands.proofs.Doing.{do_so}
 use Rattle.mr_ends.specs.State.{Transaction, begun, streams}
 use Rattle.mr_ends.specs.State.EndState.{client}
 use Rattle.mr_ends.specs.Replicas.{Lists, is_named}
 use Rattle.mr_outs.specs.Outs.{OutsState, no_output}
+use Rattle.mr_repl.specs.Backlog.{usual_backlog}
 use Rattle.mr_rows.specs.State.{Core, NodeState, Agrees, AgreesWithin, ReplicaAgrees, end_of, started}
 use Rattle.mr_rows.specs.Telling.{Around, IsAround, answer_about, link_of}
 use Rattle.mr_rows.specs.Served.{Served}
@@ -297,7 +298,7 @@ hears p s u bytes b h f = record {
 }
 
 -- a link was opened
-pub opened : (a b : NodeState) (l : LinkId) (id : List ℕ) (held : Dataset) → a ≡ started false 0 1048576 id held → Opens a l b → Stands (record { node = b; link = l; used = 0 }) (begun_with id held) []
+pub opened : (a b : NodeState) (l : LinkId) (id : List ℕ) (held : Dataset) → a ≡ started false 0 usual_backlog id held → Opens a l b → Stands (record { node = b; link = l; used = 0 }) (begun_with id held) []
 opened a b l id held is o = record {
   core = ap (λ (z : NodeState). z.core) o.node ∙ ap (λ (z : NodeState). z.core) is;
   end = o.agrees.is;

@@ -12,7 +12,7 @@ use Rattle.mr_replay.specs.Effects.{IsGoodEffect}
 use Rattle.mr_groups.specs.Groups.{IsGoodGroup, can_join, group_text, grown_text}
 use Rattle.mr_groups.specs.Folding.{LeadsByGroups, LoadsGroups, MakesByGroups}
 use Rattle.mr_groups.proofs.Runs.{some_is, torn_loads_none}
-use Rattle.mr_groups.proofs.Going.{leads_further, made_once}
+use Rattle.mr_groups.proofs.Going.{makes_further, made_once}
 use Rattle.mr_language.proofs.GoodGroups.{good_as_group, good_effects}
 use Rattle.mr_language.proofs.Waited.{sound_all}
 use Rattle.mr_ends.specs.State.{Transaction}
@@ -85,7 +85,7 @@ executed_loads [] m n o a b xs ys used join good led h f t y l = absurd (none_is
 executed_loads (e ∷ es) m n o a b xs ys used join good led h f t y l =
     let p = group_text (e ∷ es) in
     let there = torn_at p a b xs ys h y t in
-    group_loads (e ∷ es) xs m n o there.0 used (All-head IsGoodGroup (e ∷ es) [] (good_as_group (e ∷ es) join good)) f (leads_further xs p empty m n f led) (subst (λ (z : List ℕ). LoadsGroups z used o) there.1 l)
+    group_loads (e ∷ es) xs m n o there.0 used (All-head IsGoodGroup (e ∷ es) [] (good_as_group (e ∷ es) join good)) f (makes_further xs p m n f led) (subst (λ (z : List ℕ). LoadsGroups z used o) there.1 l)
 
 nothing_torn : {A : Type 0} (out : Output) (a b : Kept) (said : List ℕ) → out ≡ record no_output { said = said } → IsTorn a b (changes_of out) → A
 nothing_torn out a b said gives t = absurd (none_is t.made t.change t.others (sym (ap changes_of gives) ∙ t.are))

@@ -3,7 +3,7 @@ use Rattle.std.specs.Prelude.{◌≡◌, ℕ, List, ◌++◌, Option, Some}
 use Rattle.std.specs.FinMap.{empty}
 use Rattle.mr_entries.specs.Dataset.{Dataset}
 use Rattle.mr_data.specs.declared.given.Given.{Given}
-use Rattle.mr_groups.specs.Folding.{LeadsByGroups, MakesByGroups}
+use Rattle.mr_groups.specs.Folding.{LeadsByGroups, LeadsByItems, MakesByGroups}
 use Rattle.mr_file.specs.LogFile.{IsSynced}
 use Rattle.mr_file.specs.declared.sync_mode.SyncMode.TheVariants.{Always}
 use Rattle.mr_pipe.specs.Outside.{Outside}
@@ -11,13 +11,14 @@ use Rattle.mr_pipe.specs.State.{PipeState}
 use Rattle.mr_pipe.specs.Piped.{Session, Broken}
 use Rattle.mr_pipe.specs.declared.fault.PipeFault.{PipeFault}
 
--- The bytes are texts of groups that lead on from a dataset, and behind them stands a beginning of the texts of groups that lead on.
+-- The bytes are texts of groups, and notes between them, that lead on from a dataset, and behind them stands a beginning of the texts
+-- of groups that lead on.
 pub record FoldsTorn (bytes : List ℕ) (old : Dataset) : Type 0 where
   pub front : List ℕ
   pub torn : List ℕ
   pub is : bytes ≡ front ++ torn
   pub mid : Dataset
-  pub folds : LeadsByGroups front old mid
+  pub folds : LeadsByItems front old mid
   pub more : List ℕ
   pub new : Dataset
   pub whole : LeadsByGroups (torn ++ more) mid new

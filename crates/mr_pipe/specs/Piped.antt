@@ -3,6 +3,7 @@ use Rattle.std.specs.Prelude.{◌≡◌, ℕ, List, ◌++◌, Option, None, fals
 use Rattle.std.specs.FinMap.{empty}
 use Rattle.std.specs.Io.KnownBytes.{Consumes, IsAtEnd}
 use Rattle.mr_file.specs.declared.sync_mode.SyncMode.TheVariants.{No}
+use Rattle.mr_repl.specs.Backlog.{usual_backlog}
 use Rattle.mr_entries.specs.Dataset.{Dataset}
 use Rattle.mr_data.specs.declared.given.Given.{Given}
 use Rattle.mr_rows.specs.State.{started}
@@ -18,7 +19,7 @@ use Rattle.mr_pipe.specs.declared.relay.Round.TheVariants as round
 
 -- a master under this id, with this dataset, at offset 0, and a client of it
 abbrev pub begun_with : List ℕ → Dataset → PipeState
-begun_with id held = record { core = (started false 0 1048576 id held).core; replica = false; transaction = None; used = 0 }
+begun_with id held = record { core = (started false 0 usual_backlog id held).core; replica = false; transaction = None; used = 0 }
 
 -- .. an empty one
 abbrev pub begun_empty : List ℕ → PipeState

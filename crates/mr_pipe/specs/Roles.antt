@@ -1,7 +1,7 @@
 -- What the roles of a pipe's node and of its link leave alone.
 use Rattle.std.specs.Prelude.{◌≡◌, ◌≢◌, ℕ, List, [], true, false, None, Some}
 use Rattle.mr_data.specs.declared.given.Given.{Given}
-use Rattle.mr_plan.specs.Requests.{rewrites}
+use Rattle.mr_commands.specs.Requests.{rewrites}
 use Rattle.mr_outs.specs.Outs.{Output}
 use Rattle.mr_rows.specs.Requests.{Asks}
 use Rattle.mr_rows.specs.Growing.{rebuilt}

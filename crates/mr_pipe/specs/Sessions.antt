@@ -6,9 +6,9 @@ use Rattle.mr_effect.specs.declared.effect.Effect.{Effect}
 use Rattle.mr_data.specs.declared.given.Given.{Given}
 use Rattle.mr_groups.specs.Groups.{grown_text}
 use Rattle.mr_cmd_node.specs.declared.node_ask.NodeAsk.TheVariants as node
-use Rattle.mr_planning.specs.Answered.{done}
-use Rattle.mr_plan.specs.Requests.{AsksNode}
-use Rattle.mr_plan.specs.Transactions.{Frame, Coming as what, DoesAll, coming}
+use Rattle.mr_room.specs.Answered.{done}
+use Rattle.mr_commands.specs.Requests.{AsksNode}
+use Rattle.mr_commands.specs.Transactions.{Frame, Coming as what, DoesAll, coming}
 use Rattle.mr_repl.specs.Lineage.{grown, renamed}
 use Rattle.mr_info.specs.declared.roles.MasterLink.TheVariants.{Connect}
 use Rattle.mr_outs.specs.Address.{AddressState}

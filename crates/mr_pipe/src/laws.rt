@@ -3,9 +3,8 @@ ghost use Rattle.mr_pipe.specs.Folding.{FilesFold, FilesFoldTorn, FilesStaySynce
 ghost use Rattle.mr_pipe.specs.Roles.{ReplicaLinksAreSilent, ReplicaLinksEndSilently, ReplicasOnlyRewrite};
 ghost use Rattle.mr_pipe.specs.Transactions.{OpenTransactionsWait, TransactionsLoadWhole};
 
-/// Where a file's bytes are the texts of groups that make the dataset with which a pipe begins, its bytes at the end are texts of
-/// groups that make the dataset of the pipe's node then, also where it was written anew. After a fault at most the texts of the last
-/// step are torn.
+/// Where a file's bytes make the dataset with which a pipe begins, group by group, at its end they make the dataset of the pipe's
+/// node so, also where the file was written anew. After a fault at most the texts of the last step are torn.
 pub fn files_fold()
     ensures whole { FilesFold }
     ensures torn { FilesFoldTorn }

@@ -8,11 +8,8 @@ use mr_data::Dataset;
 use mr_links::LinkId;
 use mr_node::{Config, Node};
 use mr_outs::Outs;
-use mr_repl::ReplId;
+use mr_repl::{ReplId, USUAL_BACKLOG};
 use std::alloc::Global;
-
-/// How many bytes the backlog holds.
-const BACKLOG: usize = 1_048_576;
 
 /// A node, the link of its one client, and how many fresh ids were taken. The count stays at its greatest.
 #[derive(Drop)]
@@ -32,7 +29,7 @@ impl LinkedNode {
         ensures stands { IfOk result (λ linked. Stands linked (begun_with id dataset) []) }
         ensures fault { IfErr result (λ e. (e ≡ PipeFault.Memory) ⊎ (e ≡ PipeFault.Stopped)) }
     {
-        let Some(config) = Config::new(false, 0, BACKLOG) else {
+        let Some(config) = Config::new(false, 0, USUAL_BACKLOG) else {
             unreachable!()
         };
         let Ok(mut node) = Node::start(alloc, id, dataset, config) else {

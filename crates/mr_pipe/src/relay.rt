@@ -13,13 +13,10 @@ use crate::linked_node::LinkedNode;
 use crate::serve::deliver;
 use mr_aof::Log;
 use mr_data::{Dataset, Given};
-use mr_file::LogFile;
+use mr_file::{LogFile, PIECE};
 use std::alloc::Global;
 use std::hash::RandomState;
 use std::io::{ErrorKind, Read, Write};
-
-/// How many bytes are read at once.
-const PIECE: usize = 65_536;
 
 /// What a read came to.
 #[derive(Clone, Copy)]

@@ -7,13 +7,11 @@ ghost use Rattle.mr_player.specs.Scripts.{IsScript};
 ghost use Rattle.mr_player.specs.Staging.{IsOnStage, IsRound, Reads};
 
 use crate::stage::Stage;
+use mr_file::PIECE;
 use mr_pipe::{PipeFault, read_piece};
 use std::alloc::Global;
 use std::hash::RandomState;
 use std::io::{Read, Write};
-
-/// How many bytes are read at once.
-const PIECE: usize = 65_536;
 
 /// Reads once, and plays the lines that end in what came; whether the input goes on.
 fn play_piece<R: Read, W: Write>(

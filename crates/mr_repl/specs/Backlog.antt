@@ -1,6 +1,10 @@
 -- What a contract sees of a backlog.
 use Rattle.std.specs.Prelude.{ℕ, ◌+◌, ◌-◌, ◌≤◌, ◌<◌, ◌^◌, List, [], ◌++◌, length, drop}
 
+-- so many bytes a backlog holds where nothing else is said
+abbrev pub usual_backlog : ℕ
+usual_backlog = 1048576
+
 -- the last n items, or all where there are fewer
 abbrev pub last_of : {X : Type 0} → ℕ → List X → List X
 last_of n xs = drop (length xs - n) xs

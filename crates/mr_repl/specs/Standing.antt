@@ -2,8 +2,8 @@
 use Rattle.std.specs.Prelude.{◌≡◌, ℕ, ◌+◌, ◌≤◌, ℤ, pos, List, Option, Some, None, ◌⊎◌}
 use Rattle.mr_repl.specs.ReplId.{digits_of}
 use Rattle.mr_repl.specs.declared.standing.Standing.{Standing}
-use Rattle.mr_repl.specs.declared.decision.Answer.{Answer}
-use Rattle.mr_repl.specs.declared.decision.Answer.TheVariants.{Full, Continue}
+use Rattle.mr_repl.specs.declared.decision.PsyncAnswer.{PsyncAnswer}
+use Rattle.mr_repl.specs.declared.decision.PsyncAnswer.TheVariants.{Full, Continue}
 
 -- the text is that of the id before, and the offset is at most that of the change
 abbrev pub IsBefore : Option (List ℕ × ℕ) → List ℕ → ℕ → Type 0
@@ -22,6 +22,6 @@ pub record MayContinue (s : Standing) (text : List ℕ) (from : ℕ) : Type 0 wh
   pub to_next : from ≤ s.offset + 1
 
 -- the stream from the offset wanted where the replica may go on, and else a snapshot
-abbrev pub IsAnswer : Answer → Standing → List ℕ → ℤ → Type 0
+abbrev pub IsAnswer : PsyncAnswer → Standing → List ℕ → ℤ → Type 0
 IsAnswer Full s text wanted = (from : ℕ) → wanted ≡ pos from → MayContinue s text from → ⊥
 IsAnswer (Continue from) s text wanted = (wanted ≡ pos from) × MayContinue s text from

@@ -5,6 +5,12 @@ use circular_buffer::HeapCircularBuffer;
 use std::alloc::{AllocError, Allocator, Global};
 use std::marker::Model;
 
+/// A backlog holds so many bytes where nothing else is said.
+pub const USUAL_BACKLOG: usize = 1_048_576;
+
+/// No backlog holds more bytes than these.
+pub const MOST_BACKLOG: usize = 1_073_741_824;
+
 /// The last bytes of a replication stream, and the offset of its last byte. An offset counts the stream's bytes
 /// from 1. The room is taken at `new`, and only `tail` takes more memory.
 #[derive(Drop)]

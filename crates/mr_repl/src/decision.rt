@@ -5,7 +5,7 @@ use crate::Standing;
 
 /// How a master answers a replica that asks to go on.
 #[derive(Clone, Copy, Debug, PartialEq, Eq)]
-pub enum Answer {
+pub enum PsyncAnswer {
     /// By a whole snapshot.
     Full,
     /// By the stream from this offset on.
@@ -14,16 +14,16 @@ pub enum Answer {
 
 /// The answer to `PSYNC id wanted`, where `id` is the word as it was sent and `wanted` the offset of the first
 /// byte asked for.
-pub fn decide(id: &[u8], wanted: i64, standing: &Standing) -> Answer
+pub fn decide(id: &[u8], wanted: i64, standing: &Standing) -> PsyncAnswer
     ensures { IsAnswer result standing.now id.now wanted }
 {
     let Ok(from) = u64::try_from(wanted) else {
-        return Answer::Full;
+        return PsyncAnswer::Full;
     };
     if is_held(from, standing) && is_known(id, from, standing) {
-        Answer::Continue(from)
+        PsyncAnswer::Continue(from)
     } else {
-        Answer::Full
+        PsyncAnswer::Full
     }
 }
 

@@ -8,8 +8,8 @@ mod lineage;
 mod replication_id;
 mod standing;
 
-pub use backlog::Backlog;
-pub use decision::{Answer, decide};
+pub use backlog::{Backlog, MOST_BACKLOG, USUAL_BACKLOG};
+pub use decision::{PsyncAnswer, decide};
 pub use laws::{
     cuts_do_not_matter, held_is_the_end, old_id_ends_at_the_change, renaming_strands_nobody,
     snapshot_ends_all_else, texts_are_forty_digits, texts_are_of_one_id,

@@ -1,3 +1,3 @@
 pub mod Commands
-pub mod Longest
+pub mod Leading
 pub mod Pieces

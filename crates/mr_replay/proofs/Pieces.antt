@@ -1,19 +1,16 @@
 -- Bytes that are done piece by piece.
-use Rattle.std.proofs.Common.{◌≡◌, ℕ, ◌<◌, ◌≤◌, ◌+◌, ◌-◌, List, ◌++◌, length, take, drop, refl, sym, ap, subst, ◌∙◌, append_assoc, arith}
-use Rattle.std.specs.FinMap.{empty}
-use Rattle.std.proofs.lemmas.List.{length-take-le, length-drop, take-append-drop, take_all}
+use Rattle.std.proofs.Common.{◌≡◌, ℕ, ◌<◌, ◌≤◌, ◌+◌, ◌-◌, List, ◌++◌, length, take, drop, refl, sym, ap, subst, ◌∙◌, arith}
+use Rattle.std.proofs.lemmas.List.{length-take-le, length-drop, take_all}
 use Rattle.std.proofs.Common.{take-add}
 use Rattle.mr_effect.specs.Spelling.{text}
 use Rattle.mr_entries.specs.Dataset.{Dataset}
-use Rattle.mr_replay.specs.Effects.{Leads, Loads, IsStuckForGood, IsRead}
-use Rattle.mr_replay.specs.Steps.{DoesFirst, TriesFirst, Waits, IsRest, IsHalt, halt_of, Replays}
+use Rattle.mr_replay.specs.Effects.{Leads}
+use Rattle.mr_replay.specs.Steps.{DoesFirst, TriesFirst, IsHalt, Replays}
 use Rattle.mr_replay.specs.declared.replaying.Step.{Step}
 use Rattle.mr_replay.specs.declared.replaying.Step.TheVariants as step
 use Rattle.mr_replay.specs.declared.replaying.Halt.{Halt}
 use Rattle.mr_replay.specs.declared.replaying.Halt.TheVariants as halt
-use Rattle.mr_replay.specs.declared.replaying.Rest.{Rest}
-use Rattle.mr_replay.specs.declared.replaying.Rest.TheVariants as rest
-use Rattle.mr_replay.proofs.Longest.{leads_on, leads_further, read_is_longest, stuck_at_once}
+use Rattle.mr_replay.proofs.Leading.{leads_on}
 
 -- what stands from a place on, as a slice gives it
 abbrev pub rest_from : ℕ → List ℕ → List ℕ
@@ -74,30 +71,3 @@ some_used bytes used more old new within done =
     let long : length (rest_from used bytes) ≡ length bytes - used = ap length (rest_is used bytes) ∙ length-drop used bytes in
     let size : more ≡ length (text done.effect) = sym (length-take-le more (rest_from used bytes) done.within) ∙ ap length done.is_text in
     (omega (arith, size), omega (arith, long, done.within, within))
-
--- where no memory was lacking, the dataset is what was led to, and nothing can be done with what is left
-pub goes_by : (bytes : List ℕ) (used : ℕ) (old new : Dataset) (r : Rest) (h : Halt) → h ≡ halt_of r → Replays bytes used old new h → Leads (take used bytes) old new × IsRest new (drop used bytes) r
-goes_by bytes used old new r h is done = by_rest r (subst (λ x. IsHalt done.mid (drop used bytes) x new) is done.left)
-  where
-    by_rest : (x : Rest) → IsHalt done.mid (drop used bytes) (halt_of x) new → Leads (take used bytes) old new × IsRest new (drop used bytes) x
-    by_rest rest.Open left = (subst (Leads (take used bytes) old) (sym left.0) done.led, subst (λ m. Waits m (drop used bytes)) (sym left.0) left.1)
-    by_rest rest.Bad left = (subst (Leads (take used bytes) old) (sym left.0) done.led, subst (λ m. IsStuckForGood m (drop used bytes)) (sym left.0) left.1)
-
--- all that was there was read
-pub loads_all : (bytes : List ℕ) (used : ℕ) (new : Dataset) (r : Rest) (h : Halt) → h ≡ halt_of r → Replays bytes used empty new h → Loads bytes used new
-loads_all bytes used new r h is done =
-    let gone = goes_by bytes used empty new r h is done in
-    subst (λ n. Loads bytes n new) (length-take-le used bytes done.within)
-    (read_is_longest bytes (take used bytes) (drop used bytes) new (sym (take-append-drop used bytes)) gone.0 (stuck_at_once new (drop used bytes) r gone.1))
-
--- a piece behind what was read
-pub reads_on : (bytes unread piece : List ℕ) (used : ℕ) (old new : Dataset) (r : Rest) (h : Halt) → h ≡ halt_of r → Replays (unread ++ piece) used old new h → IsRead bytes old unread → IsRead (bytes ++ piece) new (drop used (unread ++ piece))
-reads_on bytes unread piece used old new r h is done read = record {
-  front = read.front ++ take used (unread ++ piece);
-  is = ap (λ (t : List ℕ). t ++ piece) read.is ∙ (append_assoc read.front unread piece
-      ∙ (ap (λ (t : List ℕ). read.front ++ t) (sym (take-append-drop used (unread ++ piece))) ∙ sym (append_assoc read.front (take used (unread ++ piece)) (drop used (unread ++ piece)))));
-  made = leads_further read.front (take used (unread ++ piece)) empty old new read.made (goes_by (unread ++ piece) used old new r h is done).0;
-}
-
-pub rests : (bytes : List ℕ) (used : ℕ) (old new : Dataset) (r : Rest) (h : Halt) → h ≡ halt_of r → Replays bytes used old new h → IsRest new (drop used bytes) r
-rests bytes used old new r h is done = (goes_by bytes used old new r h is done).1

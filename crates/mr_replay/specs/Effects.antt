@@ -1,5 +1,5 @@
--- What bytes make of a dataset as a list of effect texts, and how much of a file is read.
-use Rattle.std.specs.Prelude.{◌≡◌, ℕ, ◌≤◌, List, ◌++◌, length, take, All, IsTrue, Some}
+-- What bytes make of a dataset as a list of effect texts.
+use Rattle.std.specs.Prelude.{◌≡◌, ℕ, List, ◌++◌, All, IsTrue, Some}
 use Rattle.std.specs.FinMap.{empty}
 use Rattle.mr_effect.specs.Effects.{words_fit, has_spelling}
 use Rattle.mr_effect.specs.Spelling.{IsShort, text, texts}
@@ -24,12 +24,6 @@ pub record Leads (bytes : List ℕ) (old new : Dataset) : Type 0 where
 abbrev pub Makes : List ℕ → Dataset → Type 0
 Makes bytes m = Leads bytes empty m
 
--- The longest beginning of a file that makes a dataset has this length, and makes this one.
-pub record Loads (file : List ℕ) (used : ℕ) (m : Dataset) : Type 0 where
-  pub within : used ≤ length file
-  pub made : Makes (take used file) m
-  pub longest : (other more : List ℕ) (n : Dataset) → file ≡ other ++ more → Makes other n → length other ≤ used
-
 -- no text of an effect that can be applied begins the bytes
 abbrev pub IsStuck : Dataset → List ℕ → Type 0
 IsStuck m bytes = (e : Effect) (n : Dataset) (more : List ℕ) → IsGoodEffect e → apply e m ≡ Some n → bytes ≡ text e ++ more → ⊥
@@ -37,9 +31,3 @@ IsStuck m bytes = (e : Effect) (n : Dataset) (more : List ℕ) → IsGoodEffect 
 -- .. however the bytes go on
 abbrev pub IsStuckForGood : Dataset → List ℕ → Type 0
 IsStuckForGood m bytes = (more : List ℕ) → IsStuck m (bytes ++ more)
-
--- the bytes are what made this dataset, and these behind it
-pub record IsRead (bytes : List ℕ) (m : Dataset) (unread : List ℕ) : Type 0 where
-  pub front : List ℕ
-  pub is : bytes ≡ front ++ unread
-  pub made : Makes front m

@@ -17,8 +17,6 @@ use Rattle.mr_replay.specs.declared.trying.Tried.{Tried}
 use Rattle.mr_replay.specs.declared.trying.Tried.TheVariants as tried
 use Rattle.mr_replay.specs.declared.replaying.Halt.{Halt}
 use Rattle.mr_replay.specs.declared.replaying.Halt.TheVariants as halt
-use Rattle.mr_replay.specs.declared.replaying.Rest.{Rest}
-use Rattle.mr_replay.specs.declared.replaying.Rest.TheVariants as rest
 
 -- the effect with these words leads from one dataset to another
 pub record DoesWords (ws : List Bytes) (old new : Dataset) : Type 0 where
@@ -87,15 +85,6 @@ TriesFirst bytes old new step.Wait = (new ≡ old) × Waits old bytes
 TriesFirst bytes old new step.Stop = (new ≡ old) × IsStuckForGood old bytes
 TriesFirst bytes old new step.Lack = (new ≡ old) × BeginsWithCommand commands bytes
 TriesFirst bytes old new step.Spent = SpendsFirst bytes old new
-
--- what is left behind the effects that were done
-abbrev pub IsRest : Dataset → List ℕ → Rest → Type 0
-IsRest m bytes rest.Open = Waits m bytes
-IsRest m bytes rest.Bad = IsStuckForGood m bytes
-
-abbrev pub halt_of : Rest → Halt
-halt_of rest.Open = halt.Open
-halt_of rest.Bad = halt.Bad
 
 -- why no more was done behind effects that led to a dataset, and the dataset then
 abbrev pub IsHalt : Dataset → List ℕ → Halt → Dataset → Type 0

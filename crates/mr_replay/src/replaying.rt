@@ -1,22 +1,13 @@
 // Texts of effects at the front of bytes, done to a dataset.
-ghost use Rattle.std.specs.Prelude.{◌≡◌, map, IfOk};
+ghost use Rattle.std.specs.Prelude.{map};
 ghost use Rattle.std.specs.Cow.{cow_slice_items};
-ghost use Rattle.mr_replay.specs.Steps.{TriesCommand, TriesFirst, Replays, halt_of};
+ghost use Rattle.mr_replay.specs.Steps.{TriesCommand, TriesFirst, Replays};
 
 use crate::trying::{Tried, try_words};
 use mr_data::Dataset;
 use mr_resp::{Scan, next_command};
-use std::alloc::{AllocError, Global};
+use std::alloc::Global;
 use std::borrow::CowSlice;
-
-/// What is left behind the effects that were done.
-#[derive(Clone, Copy, Debug, PartialEq, Eq)]
-pub enum Rest {
-    /// More bytes may make an effect's text of it.
-    Open,
-    /// However it goes on, no effect that can be applied begins it.
-    Bad,
-}
 
 /// Why no more effects were done.
 #[derive(Clone, Copy, Debug, PartialEq, Eq)]
@@ -118,16 +109,5 @@ pub fn replay_front(alloc: Global, dataset: &mut Dataset, bytes: &[u8]) -> Repla
                 };
             }
         }
-    }
-}
-
-/// What is left, where no memory was lacking.
-pub(crate) fn rest_of(halt: Halt) -> Result<Rest, AllocError>
-    ensures { IfOk result (λ rest. halt ≡ halt_of rest) }
-{
-    match halt {
-        Halt::Open => Ok(Rest::Open),
-        Halt::Bad => Ok(Rest::Bad),
-        Halt::Lack | Halt::Spent => Err(AllocError),
     }
 }

@@ -7,6 +7,7 @@ use Rattle.std.proofs.lemmas.Bool.{cases_lt, cases_eq}
 use Rattle.std.proofs.lemmas.Fmt.{length-decimal-le}
 use Rattle.std.proofs.lemmas.List.{append-nil, length-append, take-append-drop}
 use Rattle.mr_inline.specs.Language.{Continues, IsDoomed, Fails}
+use Rattle.mr_inline.specs.Limits.{word_limit, words_limit}
 use Rattle.mr_resp.specs.Array.{IsArrayText, IsInWord, HasArrayFault}
 use Rattle.mr_resp.specs.Command.{IsCommandText, BeginsZero, HasCommandFault, ReadsCommand}
 use Rattle.mr_resp.specs.Reasons.{IsSomeCount, IsSomeWordCount, word_takes, IsTooLong, PassesWordLimit, IsReason, IsCommandReason}
@@ -56,7 +57,7 @@ module _ (limits : Limits) where
   doomed_command_bad input More d p = absurd (doomed_no_more (IsCommandText limits) input d p)
   doomed_command_bad input (Bad fault) d p = tt
 
-module _ (limits : Limits) (word : limits.word ≡ 16777216) (words : limits.words ≡ 1048576) (text : limits.text ≡ 18446744073709551615) where
+module _ (limits : Limits) (word : limits.word ≡ word_limit) (words : limits.words ≡ words_limit) (text : limits.text ≡ 18446744073709551615) where
   one_word : IsCommandText limits (array ([] ∷ []))
   one_word = ([] ∷ [], texts.one_command limits word words text)
 

@@ -7,6 +7,7 @@ use Rattle.std.proofs.lemmas.Fmt.{length-decimal-le}
 use Rattle.std.proofs.lemmas.List.{append-nil, length-append, take-append-drop, get_or_append_left}
 use Rattle.std.proofs.lemmas.List.Elements.{All-nil, All-cons, All-head, All-tail}
 use Rattle.mr_inline.specs.Language.{Continues, IsDoomed, Fails}
+use Rattle.mr_inline.specs.Limits.{word_limit, words_limit}
 use Rattle.mr_resp.specs.Array.{IsNumber, IsCountLine, IsArray, IsEmptyArray, IsArrayText, HasArrayFault}
 use Rattle.mr_resp.specs.Command.{IsCommand, IsCommandText, HasCommandFault, ReadsCommand}
 use Rattle.mr_resp.specs.Scans.{ReadsArray}
@@ -55,12 +56,12 @@ pub map_ok : {T E : Type 0} (r : Result T E) (P Q : T → Type 0) → ((x : T) �
 map_ok (Ok x) P Q f h = f x h
 map_ok (Err e) P Q f h = tt
 
-module _ (limits : Limits) (word : limits.word ≡ 16777216) (words : limits.words ≡ 1048576) (text : limits.text ≡ 18446744073709551615) where
+module _ (limits : Limits) (word : limits.word ≡ word_limit) (words : limits.words ≡ words_limit) (text : limits.text ≡ 18446744073709551615) where
   -- a word takes at most these bytes, and so all words fit the text
-  word_size : (w : List ℕ) → length w ≤ limits.word → length (bulk w) ≤ 16777241
+  word_size : (w : List ℕ) → length w ≤ limits.word → length (bulk w) ≤ 536870937
   word_size w le = omega (arith, length-bulk w, length-decimal-le 20 (length w) (lit< tt) (omega (arith, le, word)) (omega (arith, le, word)))
 
-  pub words_size : (ws : List (List ℕ)) → All (λ w. length w ≤ limits.word) ws → length (flat_map bulk ws) ≤ 16777241 * length ws
+  pub words_size : (ws : List (List ℕ)) → All (λ w. length w ≤ limits.word) ws → length (flat_map bulk ws) ≤ 536870937 * length ws
   words_size [] h = omega arith
   words_size (w ∷ ws) h = omega (arith, length-append (bulk w) (flat_map bulk ws), word_size w (All-head (λ w. length w ≤ limits.word) w ws h), words_size ws (All-tail (λ w. length w ≤ limits.word) w ws h))
 

@@ -13,7 +13,8 @@ use Rattle.mr_inline.proofs.FaultReasons.{all_front, unbalanced_behind}
 use Rattle.mr_inline.proofs.LinesByRuns.{split, continues}
 use Rattle.mr_resp.specs.Array.{IsArray, IsArrayText, IsStrict, IsNumber, IsCountLine, IsBulk, IsInWord, IsWordFault, IsCountFault}
 use Rattle.mr_resp.specs.Reasons.{IsSomeCount, CountsTooMany, LacksMark, word_takes, IsTooLong, BreaksWord, IsReason}
-use Rattle.mr_resp.specs.Request.{line_limit, IsText, IsInArray, HasInlineFault, HasFault}
+use Rattle.mr_inline.specs.Limits.{line_limit}
+use Rattle.mr_resp.specs.Request.{IsText, IsInArray, HasInlineFault, HasFault}
 use Rattle.mr_resp.specs.Spelling.{line_end, number_line, bulk, array, minus_one}
 use Rattle.mr_resp.specs.declared.fault.Fault.{Fault}
 use Rattle.mr_resp.specs.declared.fault.Fault.TheVariants.{MultibulkLength, BulkLength, ExpectedDollar, UnbalancedQuotes, TooBigInline, WordTooBig, TooManyWords}

@@ -10,7 +10,8 @@ use Rattle.mr_inline.specs.Bytes.{star, line_feed}
 use Rattle.mr_inline.specs.Line.{IsLineOf, IsLineText, Part, word_text, part_text, part_value}
 use Rattle.mr_inline.specs.Scans.{HasNoQuote}
 use Rattle.mr_resp.specs.Array.{IsArrayText, HasArrayFault}
-use Rattle.mr_resp.specs.Request.{line_limit, IsText, IsInArray, HasInlineFault, HasFault}
+use Rattle.mr_inline.specs.Limits.{line_limit}
+use Rattle.mr_resp.specs.Request.{IsText, IsInArray, HasInlineFault, HasFault}
 use Rattle.mr_resp.specs.Scans.{Reads, ReadsArray, ReadsInline, CopiesNothing, CopiesOnlyQuoted}
 use Rattle.mr_resp.specs.declared.limits.Limits.{Limits}
 use Rattle.mr_resp.specs.declared.fault.Fault.{Fault}

@@ -9,7 +9,8 @@ use Rattle.mr_inline.proofs.LinesByRuns.{apart, one_list}
 use Rattle.mr_inline.proofs.QuotedLines.{quoted_is_read}
 use Rattle.mr_inline.proofs.WordLengths as line_words
 use Rattle.mr_resp.specs.Array.{IsArray}
-use Rattle.mr_resp.specs.Request.{line_limit, IsRequest, IsEmptyRequest, IsText, HasInlineFault, HasFault}
+use Rattle.mr_inline.specs.Limits.{line_limit}
+use Rattle.mr_resp.specs.Request.{IsRequest, IsEmptyRequest, IsText, HasInlineFault, HasFault}
 use Rattle.mr_resp.specs.Spelling.{array}
 use Rattle.mr_resp.specs.Scans.{Reads, request, nothing, faulty, outcome_of, IsBad}
 use Rattle.mr_resp.specs.Usual.{usual, usual-word, usual-words}

@@ -1,7 +1,7 @@
 -- What is known of the front of an input lasts.
 use Rattle.std.proofs.Common.{ℕ, List, ◌++◌, arith}
 use Rattle.mr_inline.proofs.MeasureSteps.{agrees-append}
-use Rattle.mr_resp.specs.Request.{line_limit}
+use Rattle.mr_inline.specs.Limits.{line_limit}
 use Rattle.mr_resp.specs.Resumed.{AgreesArray, Agrees, IsFresh}
 use Rattle.mr_resp.specs.declared.limits.Limits.{Limits}
 use Rattle.mr_resp.specs.declared.progress.Progress.{Progress}

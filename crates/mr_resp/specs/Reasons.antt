@@ -5,7 +5,7 @@ use Rattle.std.specs.List.{flat_map}
 use Rattle.mr_inline.specs.Language.{IsDoomed}
 use Rattle.mr_inline.specs.Line.{IsTooBig}
 use Rattle.mr_inline.specs.Reasons.{IsUnbalanced}
-use Rattle.mr_resp.specs.Request.{line_limit}
+use Rattle.mr_inline.specs.Limits.{line_limit}
 use Rattle.mr_resp.specs.Spelling.{number_line, bulk, minus_one}
 use Rattle.mr_resp.specs.declared.fault.Fault.{Fault}
 use Rattle.mr_resp.specs.declared.fault.Fault.TheVariants.{MultibulkLength, BulkLength, ExpectedDollar, UnbalancedQuotes, TooBigInline, WordTooBig, TooManyWords}

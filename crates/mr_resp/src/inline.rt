@@ -2,16 +2,14 @@ ghost use Rattle.std.specs.Prelude.{ℕ, ◌≡◌, ◌≢◌, List, ◌++◌, I
 ghost use Rattle.mr_inline.specs.Bytes.{star};
 ghost use Rattle.mr_inline.specs.Resumed.{Agrees};
 ghost use Rattle.mr_inline.specs.Scans.{BeginsWithLine};
-ghost use Rattle.mr_resp.specs.Request.{line_limit, HasInlineFault};
+ghost use Rattle.mr_inline.specs.Limits.{line_limit};
+ghost use Rattle.mr_resp.specs.Request.{HasInlineFault};
 ghost use Rattle.mr_resp.specs.Scans.{ReadsInline, CopiesOnlyQuoted};
 
 use crate::fault::Fault;
 use crate::request::Scan;
-use mr_inline::{LineFault, LineProgress, LineScan, next_line_from};
+use mr_inline::{LINE_LIMIT, LineFault, LineProgress, LineScan, next_line_from};
 use std::alloc::{AllocError, Global};
-
-/// The most bytes before the line feed of a line.
-const LINE_LIMIT: usize = 65_536;
 
 /// Reads the line at the front of the input, from where an earlier call with the same front stopped.
 pub(crate) fn next_inline_from<'a>(

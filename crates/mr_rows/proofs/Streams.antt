@@ -8,8 +8,8 @@ use Rattle.mr_effect.specs.Spelling.{texts}
 use Rattle.mr_effect.specs.declared.effect.Effect.{Effect}
 use Rattle.mr_cmd_node.specs.declared.node_ask.NodeAsk.{NodeAsk}
 use Rattle.mr_groups.specs.Groups.{grown_text}
-use Rattle.mr_plan.proofs.Replicas.{none_on_replica}
-use Rattle.mr_plan.proofs.Doing.{do_nothing, have_none}
+use Rattle.mr_commands.proofs.Replicas.{none_on_replica}
+use Rattle.mr_commands.proofs.Doing.{do_nothing, have_none}
 use Rattle.mr_ends.specs.State.{Transaction}
 use Rattle.mr_outs.specs.Outs.{OutsState, Output}
 use Rattle.mr_rows.specs.State.{Core, NodeState}

@@ -1,22 +1,24 @@
 -- What a step at a client's end of a link may do, one row for each.
 use Rattle.std.specs.Prelude.{◌≡◌, ◌≢◌, ◌≤◌, ◌<◌, ◌++◌, ℕ, ℤ, pos, List, [], true, false, not, Some, None, length}
+use Rattle.std.specs.List.{AllByRecursion}
 use Rattle.mr_links.specs.declared.link_id.LinkId.{LinkId}
 use Rattle.mr_resp.specs.Replies.{Tree, error, reply_text}
 use Rattle.mr_resp.specs.Faults.{fault_text}
 use Rattle.mr_resp.specs.declared.fault.Fault.{Fault}
 use Rattle.mr_entries.specs.Dataset.{Dataset}
 use Rattle.mr_effect.specs.declared.effect.Effect.{Effect}
+use Rattle.mr_entries.specs.Changes.{NeedsNoMemory}
 use Rattle.mr_data.specs.Rebuilding.{rebuilding}
 use Rattle.mr_data.specs.declared.given.Given.{Given}
-use Rattle.mr_planning.specs.Answered.{done}
-use Rattle.mr_plan.specs.Requests.{AsksNode, HasPlan, halts as is_halting, quits}
+use Rattle.mr_room.specs.Answered.{done}
+use Rattle.mr_commands.specs.Requests.{AsksNode, HasPlan, halts as is_halting, quits}
 use Rattle.mr_cmd_node.specs.declared.node_ask.NodeAsk.TheVariants as node
 use Rattle.mr_repl.specs.Lineage.{LineageState, standing_of, renamed}
 use Rattle.mr_repl.specs.Backlog.{bytes_from}
 use Rattle.mr_repl.specs.Standing.{MayContinue}
-use Rattle.mr_lines.specs.Lines.{most_counted}
-use Rattle.mr_lines.specs.Written.{reply_line, length_line}
-use Rattle.mr_lines.specs.declared.psync.PsyncReply.TheVariants.{FullResync, Continue}
+use Rattle.mr_peer_lines.specs.Lines.{most_counted}
+use Rattle.mr_peer_lines.specs.Written.{reply_line, length_line}
+use Rattle.mr_peer_lines.specs.declared.psync.PsyncReply.TheVariants.{FullResync, Continue}
 use Rattle.mr_course.specs.State.{name_of}
 use Rattle.mr_ends.specs.State.{begun, full}
 use Rattle.mr_ends.specs.State.EndState.{client, waiting, replica}
@@ -179,7 +181,7 @@ pub data MayLack (u : List ℕ) : Type 0 where
   asks : (words : List (List ℕ)) (rest : List ℕ) → Asks u words rest → MayLack u
   doomed : (fault : Fault) → IsDoomedBy u fault → MayLack u
 
--- Memory ran out while the effects of the first request were applied, of which there are some, within the offset limit.
+-- Memory ran out while the effects of the first request were applied, of which one takes some, within the offset limit.
 pub record Stops (a : NodeState) (u : List ℕ) (given : Given) : Type 0 where
   pub words : List (List ℕ)
   pub rest : List ℕ
@@ -188,4 +190,4 @@ pub record Stops (a : NodeState) (u : List ℕ) (given : Given) : Type 0 where
   pub effects : List Effect
   pub plan : HasPlan (not a.core.master) a.core.held words given reply effects
   pub within : offset_behind effects a.core ≤ offset_limit
-  pub some : effects ≢ []
+  pub heavy : AllByRecursion NeedsNoMemory effects → ⊥

@@ -8,7 +8,7 @@ use Rattle.mr_outs.specs.Outs.{OutsState, no_outs}
 use Rattle.mr_rows.specs.State.{NodeState, IsShut, OthersStay}
 use Rattle.mr_rows.specs.Requests.{Asks, AsksNothing, IsDoomedBy}
 use Rattle.mr_rows.specs.Ends.{Leaves}
-use Rattle.mr_plan.specs.Requests.{AsksNode}
+use Rattle.mr_commands.specs.Requests.{AsksNode}
 
 -- an acknowledgement stands at the front, or an empty request
 pub data IsExpected (u rest : List ℕ) : Type 0 where

@@ -11,9 +11,9 @@ use Rattle.mr_cmd_node.specs.declared.node_ask.NodeAsk.{NodeAsk}
 use Rattle.mr_cmd_node.specs.declared.node_ask.NodeAsk.TheVariants as node
 use Rattle.mr_cmd_server.specs.Commands.{rewriting}
 use Rattle.mr_cmd_server.specs.declared.question.Question.{Question}
-use Rattle.mr_planning.specs.Answered.{done}
-use Rattle.mr_plan.specs.Transactions.{discard_alone, exec_alone}
-use Rattle.mr_plan.specs.Requests.{AsksNode, HasPlan, IsPlain, left, question_in, rewrites}
+use Rattle.mr_room.specs.Answered.{done}
+use Rattle.mr_commands.specs.Transactions.{discard_alone, exec_alone}
+use Rattle.mr_commands.specs.Requests.{AsksNode, HasPlan, IsPlain, left, question_in, rewrites}
 use Rattle.mr_outs.specs.Outs.{Output, no_output, growth}
 use Rattle.mr_rows.specs.State.{Core}
 use Rattle.mr_rows.specs.Requests.{Asks, AsksNothing}

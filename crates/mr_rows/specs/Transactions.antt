@@ -7,8 +7,8 @@ use Rattle.mr_effect.specs.declared.effect.Effect.{Effect}
 use Rattle.mr_data.specs.declared.given.Given.{Given}
 use Rattle.mr_groups.specs.Groups.{grown_text}
 use Rattle.mr_repl.specs.Lineage.{grown}
-use Rattle.mr_planning.specs.Answered.{done}
-use Rattle.mr_plan.specs.Transactions.{Coming, waits, marks, nests, drops as discards, ends, quits, coming, queued, nested, aborted, Frame, DoesAll, FirstHasEffects}
+use Rattle.mr_room.specs.Answered.{done}
+use Rattle.mr_commands.specs.Transactions.{Coming, waits, marks, nests, drops as discards, ends, quits, coming, queued, nested, aborted, Frame, DoesAll, FirstTakesMemory}
 use Rattle.mr_ends.specs.State.{Transaction, with_text, as_marked}
 use Rattle.mr_ends.specs.State.EndState.{client, waiting}
 use Rattle.mr_outs.specs.Outs.{OutsState, no_outs, outs_with, growth}
@@ -128,4 +128,4 @@ pub record StopsWithin (a : NodeState) (t : Transaction) (u : List ℕ) (given :
   pub effects : List Effect
   pub held : Dataset
   pub does : DoesAll (frame_of a) (not a.core.master) given done_first [] a.core.held replies effects held
-  pub some : (effects ≢ []) ⊎ FirstHasEffects (frame_of a) (not a.core.master) given left effects held
+  pub some : (effects ≢ []) ⊎ FirstTakesMemory (frame_of a) (not a.core.master) given left effects held

@@ -12,7 +12,7 @@ use Rattle.mr_course.specs.declared.upstream.UpstreamStep.TheVariants as outcome
 use Rattle.mr_course.specs.declared.upstream.UpstreamFault.TheVariants as fault
 use Rattle.mr_ends.specs.State.{EndState, without}
 use Rattle.mr_outs.specs.Outs.{OutsState, no_outs}
-use Rattle.mr_rows.specs.State.{NodeState, course_of}
+use Rattle.mr_rows.specs.State.{NodeState, course_of, stopped_as}
 
 -- the text of a heartbeat
 abbrev pub beat : List ℕ
@@ -79,11 +79,10 @@ pub record Lacks (a : NodeState) (l : LinkId) (b : NodeState) : Type 0 where
   pub named : listens.name ≡ l
   pub node : b ≡ node_behind a course b.core.held a.ends
 
--- Memory ran out within a group, or it can't be applied as a whole: the node stops.
+-- Memory ran out within a group, or it can't be applied as a whole: the node stops, and is what its course and its dataset came to.
 pub record Spends (a : NodeState) (l : LinkId) (b : NodeState) : Type 0 where
   pub course : CourseState
   pub told : List ℕ
   pub listens : Listens (course_of a) a.core.held (Err fault.Stopped) course b.core.held told
   pub named : listens.name ≡ l
-  pub down : b.core.up ≡ false
-  pub ends : b.ends ≡ a.ends
+  pub node : b ≡ stopped_as (node_behind a course b.core.held a.ends)

@@ -10,8 +10,8 @@ use Rattle.std.proofs.lemmas.List.Folds.{prefix_len-append}
 use Rattle.std.proofs.lemmas.List.Quantifiers.{position-Some}
 use Rattle.std.proofs.lemmas.List.Sums.{position_or_len_is}
 use Rattle.std.proofs.Math.Seq.{drop-cons, drop-append-add, take-append_seam}
-use Rattle.mr_value.proofs.Numbers.{digit, each_is_digit, number_of-signed_decimal, number_text}
-use Rattle.mr_value.specs.Number.{is_i64, number_of}
+use Rattle.mr_bytes.proofs.Numbers.{digit, each_is_digit, number_of-signed_decimal, number_text}
+use Rattle.mr_bytes.specs.Number.{is_i64, number_of}
 use Rattle.mr_score.specs.Score.{is_score}
 use Rattle.mr_score.specs.Texts.{IsScoreText, are_zeros, score_of, whole_before, whole_part, within_limit}
 

@@ -2,7 +2,7 @@
 use Rattle.std.specs.Prelude.{◌≡◌, ℕ, ◌+◌, ◌<◌, ◌==◌, ◌⊎◌, ◌&&◌, ℤ, List, ◌∷◌, ◌++◌, length, take, drop, replicate, position, Bool, IsTrue, nat_lt, if◌then◌else◌, Option, Some, None, option_and_then}
 use Rattle.std.specs.Fmt.{signed_decimal}
 use Rattle.std.specs.List.{list_all}
-use Rattle.mr_value.specs.Number.{number_of}
+use Rattle.mr_bytes.specs.Number.{number_of}
 use Rattle.mr_score.specs.Score.{is_score}
 
 -- The score that a text spells: the number's one spelling, after which a point and zeros may stand.

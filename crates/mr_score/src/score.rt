@@ -4,7 +4,7 @@ ghost use Rattle.std.specs.List.{list_all};
 ghost use Rattle.mr_score.specs.Score.{is_score};
 ghost use Rattle.mr_score.specs.Texts.{are_zeros, score_of, whole_part, within_limit};
 
-use mr_value::read_i64;
+use mr_bytes::read_i64;
 
 /// The greatest score. The least is its negative. A double holds each whole number between them.
 pub const MOST: i64 = 1 << 53;

@@ -6,7 +6,7 @@ use Rattle.hex.specs.Hex.{decode_sized}
 use Rattle.hex.specs.declared.error.FromHexError.{FromHexError}
 use Rattle.hex.proofs.HexLemmas.{decode_of-ok, decode_sized-encode_lower, decode_sized-ok, decode_sized-twice}
 use Rattle.mr_repl.specs.ReplId.{IsId, digits_of}
-use Rattle.mr_value.proofs.Numbers.{equal_bytes, same_bytes}
+use Rattle.mr_bytes.proofs.Numbers.{equal_bytes, same_bytes}
 use Rattle.mr_script.specs.Said.{NamesId}
 use Rattle.mr_script.specs.Words.{id_by, id_of, written_out}
 

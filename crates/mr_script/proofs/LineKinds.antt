@@ -8,7 +8,8 @@ use Rattle.mr_inline.specs.Language.{Continues, Fails}
 use Rattle.mr_inline.specs.Line.{IsLineOf, IsLineText, HasLineFault}
 use Rattle.mr_inline.specs.declared.fault.LineFault.{LineFault}
 use Rattle.mr_inline.proofs.LinesByRuns.{apart, one_list, wants_no_more}
-use Rattle.mr_script.specs.Lines.{LineSays, Reads, line_limit}
+use Rattle.mr_inline.specs.Limits.{line_limit}
+use Rattle.mr_script.specs.Lines.{LineSays, Reads}
 use Rattle.mr_script.specs.Reading.{said_by, said_of}
 use Rattle.mr_script.specs.Said.{Said, Says}
 use Rattle.mr_script.specs.declared.line.Line.{Line}

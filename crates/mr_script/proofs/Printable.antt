@@ -10,7 +10,7 @@ use Rattle.std.proofs.lemmas.List.Sums.{AllPass-from_list_all}
 use Rattle.hex.specs.Hex.{encode_lower, encode_with, lower_digits}
 use Rattle.mr_repl.specs.ReplId.{IsId, digits_of, is_lower_digit}
 use Rattle.mr_repl.proofs.IdTexts.{texts_are_forty}
-use Rattle.mr_value.proofs.Numbers.{first}
+use Rattle.mr_bytes.proofs.Numbers.{first}
 use Rattle.mr_script.specs.Answers.{answer_text, is_plain, is_printable, IsAnswer, numbered, printed, printed_byte}
 use Rattle.mr_script.specs.declared.answer.Answer.{Answer}
 use Rattle.mr_script.specs.declared.answer.Answer.TheVariants.{Node, Link, Done, Refused, Bad, Shows, Stopped, Bytes}

@@ -1,13 +1,10 @@
 -- What the bytes of a line say.
 use Rattle.std.specs.Prelude.{ℕ, List, Option, MatchOption}
+use Rattle.mr_inline.specs.Limits.{line_limit}
 use Rattle.mr_inline.specs.Line.{IsLineOf}
 use Rattle.mr_script.specs.Said.{Said, Says}
 use Rattle.mr_script.specs.Reading.{said_of}
 use Rattle.mr_script.specs.declared.line.Line.{Line}
-
--- the most bytes before a line's end
-abbrev pub line_limit : ℕ
-line_limit = 65536
 
 -- The bytes, a line feed at their end, are a line of words that say this.
 pub record LineSays (text : List ℕ) (said : Said) : Type 0 where

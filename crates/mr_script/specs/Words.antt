@@ -6,7 +6,7 @@ use Rattle.std.specs.Str.Parse.{digits_value}
 use Rattle.hex.specs.Hex.{decode_sized}
 use Rattle.hex.specs.declared.error.FromHexError.{FromHexError}
 use Rattle.mr_repl.specs.ReplId.{digits_of}
-use Rattle.mr_value.specs.Number.{number_of}
+use Rattle.mr_bytes.specs.Number.{number_of}
 use Rattle.mr_script.specs.declared.side.Side.{Side}
 use Rattle.mr_script.specs.declared.side.Side.TheVariants.{Opener, Server}
 

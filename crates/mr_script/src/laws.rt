@@ -3,7 +3,8 @@ ghost use Rattle.std.specs.Prelude.{ℕ, ◌≡◌, ◌≤◌, ◌<◌, ◌+◌,
 ghost use Rattle.std.specs.List.{AllPass};
 ghost use Rattle.mr_inline.specs.Quoted.{quoted_line};
 ghost use Rattle.mr_script.specs.Answers.{answer_text, is_printable, IsAnswer, printed};
-ghost use Rattle.mr_script.specs.Lines.{LineSays, line_limit};
+ghost use Rattle.mr_inline.specs.Limits.{line_limit};
+ghost use Rattle.mr_script.specs.Lines.{LineSays};
 ghost use Rattle.mr_script.specs.Said.{Said, Says};
 ghost use Rattle.mr_script.specs.declared.answer.Answer.{Answer};
 

@@ -2,17 +2,15 @@
 ghost use Rattle.std.specs.Prelude.{IfOk, OnErr, slice_index, ◌≢◌, ◌↔◌, IsTrue, ◌≡◌};
 ghost use Rattle.mr_inline.specs.Bytes.{star};
 ghost use Rattle.mr_inline.specs.Scans.{BeginsWithLine};
-ghost use Rattle.mr_script.specs.Lines.{line_limit, Reads};
+ghost use Rattle.mr_inline.specs.Limits.{line_limit};
+ghost use Rattle.mr_script.specs.Lines.{Reads};
 
 use crate::reading::read_words;
 use crate::side::Side;
 use mr_data::Given;
-use mr_inline::{LineScan, next_line};
+use mr_inline::{LINE_LIMIT, LineScan, next_line};
 use mr_repl::ReplId;
 use std::alloc::{AllocError, Global};
-
-/// The most bytes before the line feed of a line.
-const LINE_LIMIT: usize = 65_536;
 
 /// What a line of a script says. Nodes and links are numbered from 0, in the order in which they came.
 #[derive(Drop)]

@@ -5,9 +5,9 @@ ghost use Rattle.mr_script.specs.Reading.{given_of, parts_of};
 ghost use Rattle.mr_script.specs.Words.{count_of, id_of};
 
 use itoa::Buffer;
+use mr_bytes::read_i64;
 use mr_data::Given;
 use mr_repl::ReplId;
-use mr_value::read_i64;
 
 /// The number that a word spells: digits without a sign and without leading zeros.
 pub(crate) fn read_count(word: &[u8]) -> Option<usize>

@@ -16,10 +16,10 @@ use Rattle.mr_effect.specs.Spelling.{text, IsShort}
 use Rattle.mr_effect.specs.declared.effect.Effect.{Effect}
 use Rattle.mr_entries.specs.Dataset.{Dataset}
 use Rattle.mr_data.specs.declared.given.Given.{Given}
-use Rattle.mr_planning.specs.Answered.{done}
-use Rattle.mr_words.specs.Faults.{fault_text}
-use Rattle.mr_words.specs.declared.fault.AskFault.{AskFault}
-use Rattle.mr_words.specs.declared.fault.AskFault.TheVariants.{Unknown}
+use Rattle.mr_room.specs.Answered.{done}
+use Rattle.mr_arguments.specs.Faults.{fault_text}
+use Rattle.mr_arguments.specs.declared.fault.AskFault.{AskFault}
+use Rattle.mr_arguments.specs.declared.fault.AskFault.TheVariants.{Unknown}
 use Rattle.mr_cmd_server.specs.Commands.{server_reply}
 use Rattle.mr_cmd_server.specs.declared.server_ask.ServerAsk.{ServerAsk}
 use Rattle.mr_cmd_server.specs.declared.server_ask.ServerAsk.TheVariants as server
@@ -27,12 +27,12 @@ use Rattle.mr_cmd_node.specs.declared.node_ask.NodeAsk.{NodeAsk}
 use Rattle.mr_ask.specs.Asks.{asked}
 use Rattle.mr_ask.specs.declared.ask.Ask.{Ask}
 use Rattle.mr_ask.specs.declared.ask.Ask.TheVariants as ask
-use Rattle.mr_plan.specs.Requests.{HasPlan, IsPlannedAs, is_quit, closes, rewriting_by, halting_by, question_by, left_by}
-use Rattle.mr_lines.specs.Bytes.{ends_line}
-use Rattle.mr_lines.specs.Lines.{status, refusal}
-use Rattle.mr_lines.specs.Replies.{IsReplyText}
-use Rattle.mr_lines.specs.declared.psync.PsyncReply.{PsyncReply}
-use Rattle.mr_lines.specs.declared.psync.PsyncReply.TheVariants as reply
+use Rattle.mr_commands.specs.Requests.{HasPlan, IsPlannedAs, is_quit, closes, rewriting_by, halting_by, question_by, left_by}
+use Rattle.mr_peer_lines.specs.Bytes.{ends_line}
+use Rattle.mr_peer_lines.specs.Lines.{status, refusal}
+use Rattle.mr_peer_lines.specs.Replies.{IsReplyText}
+use Rattle.mr_peer_lines.specs.declared.psync.PsyncReply.{PsyncReply}
+use Rattle.mr_peer_lines.specs.declared.psync.PsyncReply.TheVariants as reply
 use Rattle.mr_outs.specs.Address.{AddressState}
 use Rattle.mr_rows.specs.Sound.{ports}
 use Rattle.mr_rows.specs.Served.{not_chained}

@@ -7,7 +7,7 @@ use Rattle.std.proofs.lemmas.Option.{slice_get-map}
 use Rattle.std.proofs.lemmas.Slice.Eq.{bytes_eq-Decides}
 use Rattle.mr_entries.specs.Dataset.{Dataset}
 use Rattle.mr_groups.specs.Folding.{MakesByGroups}
-use Rattle.mr_groups.proofs.Runs.{leads_nowhere}
+use Rattle.mr_groups.proofs.Runs.{makes_nothing}
 use Rattle.mr_history.specs.History.{Book, Draws, History}
 use Rattle.mr_history.specs.World as history
 use Rattle.mr_history.specs.Rows.{fresh_node}
@@ -44,7 +44,7 @@ begun_draws es book id m is none = record { new_id = is_none (entry_of es id) (b
 pub starts : StartsAreRows
 starts w book as_replica port backlog id file holds none = record {
   new_book = with_history book id (history_from empty);
-  kept = begun_kept w.book book id [] empty holds.kept (leads_nowhere empty) none;
+  kept = begun_kept w.book book id [] empty holds.kept makes_nothing none;
   row = record {
     node = length w.slots;
     new_node = none_at_end seen_node w.slots;

@@ -9,7 +9,7 @@ use Rattle.mr_entries.specs.Dataset.{Dataset}
 use Rattle.mr_data.specs.Meaning.{apply_all}
 use Rattle.mr_data.specs.declared.given.Given.{Given}
 use Rattle.mr_resp.specs.Replies.{Tree, reply_text}
-use Rattle.mr_words.specs.declared.fault.AskFault.{AskFault}
+use Rattle.mr_arguments.specs.declared.fault.AskFault.{AskFault}
 use Rattle.mr_cmd_server.specs.Commands.{server_reply}
 use Rattle.mr_cmd_server.specs.declared.server_ask.ServerAsk.{ServerAsk}
 use Rattle.mr_cmd_node.specs.declared.node_ask.NodeAsk.{NodeAsk}
@@ -20,13 +20,13 @@ use Rattle.mr_ask.specs.declared.ask.Ask.TheVariants as ask
 use Rattle.mr_replay.specs.Effects.{IsGoodEffect}
 use Rattle.mr_groups.specs.Groups.{group_texts, singles}
 use Rattle.mr_groups.proofs.Runs.{single_applied, single_texts}
-use Rattle.mr_plan.specs.Transactions.{Coming, coming, coming_by}
-use Rattle.mr_plan.specs.Transactions.Coming.{waits, marks, nests, drops, ends, quits}
-use Rattle.mr_plan.specs.Requests.{AsksNode, HasPlan, IsPlain, halting_by, rewriting_by, question_by}
-use Rattle.mr_plan.proofs.Replicas.{none_on_replica}
+use Rattle.mr_commands.specs.Transactions.{Coming, coming, coming_by}
+use Rattle.mr_commands.specs.Transactions.Coming.{waits, marks, nests, drops, ends, quits}
+use Rattle.mr_commands.specs.Requests.{AsksNode, HasPlan, IsPlain, halting_by, rewriting_by, question_by}
+use Rattle.mr_commands.proofs.Replicas.{none_on_replica}
 use Rattle.mr_repl.specs.Backlog.{IsWindow, last_of}
 use Rattle.mr_repl.specs.Lineage.{grown}
-use Rattle.mr_lines.specs.Lines.{most_counted}
+use Rattle.mr_peer_lines.specs.Lines.{most_counted}
 use Rattle.mr_inline.specs.Language.{IsDoomed}
 use Rattle.mr_resp.specs.Request.{IsText}
 use Rattle.mr_resp.specs.Usual.{usual}

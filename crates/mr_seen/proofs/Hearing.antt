@@ -10,11 +10,11 @@ use Rattle.mr_entries.specs.Dataset.{Dataset}
 use Rattle.mr_data.specs.Meaning.{apply_all}
 use Rattle.mr_groups.specs.Groups.{IsGoodGroup, group_text}
 use Rattle.mr_groups.specs.Reading.{IsOpen}
-use Rattle.mr_lines.specs.Lines.{status, size, IsLineText}
-use Rattle.mr_lines.specs.Replies.{IsReplyText}
-use Rattle.mr_lines.specs.declared.psync.PsyncReply.{PsyncReply}
-use Rattle.mr_lines.specs.declared.psync.PsyncReply.TheVariants as reply
-use Rattle.mr_lines.proofs.Apart.{apart}
+use Rattle.mr_peer_lines.specs.Lines.{status, size, IsLineText}
+use Rattle.mr_peer_lines.specs.Replies.{IsReplyText}
+use Rattle.mr_peer_lines.specs.declared.psync.PsyncReply.{PsyncReply}
+use Rattle.mr_peer_lines.specs.declared.psync.PsyncReply.TheVariants as reply
+use Rattle.mr_peer_lines.proofs.Apart.{apart}
 use Rattle.mr_history.specs.Language.{Line}
 use Rattle.mr_history.specs.Language.Line.{FullResync, Continue, Plain, Refusal}
 use Rattle.mr_history.specs.FollowerRows.{Usable}
@@ -29,7 +29,7 @@ use Rattle.mr_follow.specs.Rows as follow
 use Rattle.mr_follow.specs.declared.phase.Phase.{Phase}
 use Rattle.mr_follow.specs.declared.phase.Phase.TheVariants as phase
 use Rattle.mr_seen.specs.Seeing.{seen_phase}
-use Rattle.mr_lines.proofs.Answers.{answer_or, IsAnswer, Settled}
+use Rattle.mr_peer_lines.proofs.Answers.{answer_or, IsAnswer, Settled}
 
 -- ---- nothing whole is there
 longer : (whole text rest more : List ℕ) → 0 < length more → text ≡ whole → whole ≡ text ++ (rest ++ more) → ⊥

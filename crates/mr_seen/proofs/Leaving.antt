@@ -1,12 +1,12 @@
 -- What a follower refuses, in the words of histories.
 use Rattle.std.proofs.Common.{◌≡◌, ◌≢◌, ◌⊎◌, inl, inr, ℕ, List, [], ◌∷◌, ◌++◌, false, None, length, length-append, append_assoc, refl, sym, ap, subst, ◌∙◌, arith}
 use Rattle.std.proofs.lemmas.List.{append_cancel_left}
-use Rattle.mr_lines.specs.Lines.{status, refusal, size, IsLineText, IsPeerLine, most_counted, SaysNothing}
-use Rattle.mr_lines.specs.Lines as peers
-use Rattle.mr_lines.specs.Replies.{IsReplyText}
-use Rattle.mr_lines.specs.declared.psync.PsyncReply.{PsyncReply}
-use Rattle.mr_lines.specs.declared.psync.PsyncReply.TheVariants as reply
-use Rattle.mr_lines.proofs.Apart.{apart}
+use Rattle.mr_peer_lines.specs.Lines.{status, refusal, size, IsLineText, IsPeerLine, most_counted, SaysNothing}
+use Rattle.mr_peer_lines.specs.Lines as peers
+use Rattle.mr_peer_lines.specs.Replies.{IsReplyText}
+use Rattle.mr_peer_lines.specs.declared.psync.PsyncReply.{PsyncReply}
+use Rattle.mr_peer_lines.specs.declared.psync.PsyncReply.TheVariants as reply
+use Rattle.mr_peer_lines.proofs.Apart.{apart}
 use Rattle.mr_history.specs.Language.Line.{Continue, Plain, Refusal}
 use Rattle.mr_history.specs.Node.{Node}
 use Rattle.mr_history.specs.FollowerRows.{NoLine, NoSnapshot, IsStuckAt, BadAnswer}
@@ -20,7 +20,7 @@ use Rattle.mr_follow.specs.Rows as follow
 use Rattle.mr_follow.specs.declared.phase.Phase.{Phase}
 use Rattle.mr_follow.specs.declared.phase.Phase.TheVariants as phase
 use Rattle.mr_seen.specs.Seeing.{seen_phase}
-use Rattle.mr_lines.proofs.Answers.{answer_or, IsAnswer, Settled}
+use Rattle.mr_peer_lines.proofs.Answers.{answer_or, IsAnswer, Settled}
 
 nothing_said : (u more t rest : List ℕ) (l : peers.Line) → lines.IsNoLine u → IsPeerLine t l → u ++ more ≡ t ++ rest → ⊥
 nothing_said u more t rest l (inl d) p e = d.never more t rest (line_text t l p) e

@@ -6,11 +6,11 @@ use Rattle.std.specs.List.{flat_map}
 use Rattle.std.specs.Option.{ok_or}
 use Rattle.std.proofs.lemmas.Fmt.{length-decimal-le, decimal_digit}
 use Rattle.std.proofs.lemmas.List.Elements.{All-nil, All-cons}
-use Rattle.mr_value.specs.Number.{number_of, is_i64}
-use Rattle.mr_value.proofs.Numbers.{number_is}
-use Rattle.mr_words.specs.Names.{named}
-use Rattle.mr_words.specs.Parts.{with}
-use Rattle.mr_words.specs.declared.fault.AskFault.TheVariants.{Integer}
+use Rattle.mr_bytes.specs.Number.{number_of, is_i64}
+use Rattle.mr_bytes.proofs.Numbers.{number_is}
+use Rattle.mr_arguments.specs.Names.{named}
+use Rattle.mr_arguments.specs.Parts.{with}
+use Rattle.mr_arguments.specs.declared.fault.AskFault.TheVariants.{Integer}
 use Rattle.mr_resp.specs.Usual.{usual, usual-word, usual-words, usual-text}
 use Rattle.mr_resp.specs.Spelling.{array, bulk, number_line}
 use Rattle.mr_repl.specs.ReplId.{IsId, digits_of}
@@ -23,7 +23,7 @@ use Rattle.mr_language.specs.Requests.{kind_of, kind_by, Asks, IsAsked}
 use Rattle.mr_language.specs.Requests.Kind.{psync}
 use Rattle.mr_language.specs.Requests.IsAsked.{by_words}
 use Rattle.mr_language.proofs.Ids.{forty}
-use Rattle.mr_lines.specs.Lines.{most_counted}
+use Rattle.mr_peer_lines.specs.Lines.{most_counted}
 use Rattle.mr_follow.specs.Handshake.{ping_line, port_line, capabilities_line, psync_line}
 use Rattle.mr_rows.specs.Sound.{ports}
 

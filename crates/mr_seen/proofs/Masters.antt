@@ -10,8 +10,8 @@ use Rattle.mr_data.specs.declared.given.Given.{Given}
 use Rattle.mr_repl.specs.Backlog.{last_of}
 use Rattle.mr_repl.specs.Lineage.{renamed}
 use Rattle.mr_groups.specs.Groups.{group_text}
-use Rattle.mr_lines.specs.Lines.{status}
-use Rattle.mr_lines.proofs.Answers.{answer_or}
+use Rattle.mr_peer_lines.specs.Lines.{status}
+use Rattle.mr_peer_lines.proofs.Answers.{answer_or}
 use Rattle.mr_follow.specs.State.{FollowState, Agrees, AgreesBy, IsOffer}
 use Rattle.mr_follow.specs.Handshake.{IsGreeting, next_of, line_after, psync_line}
 use Rattle.mr_follow.specs.Rows as follow
@@ -458,7 +458,7 @@ stops w book n s k name f given fresh b holds is following down = record {
 }
 
 pub master_spends : SpendsAreRows
-master_spends w book n s k name given fresh b holds is r = let h = r.listens in stops w book n s k h.name h.follow given fresh b holds is h.found r.down
+master_spends w book n s k name given fresh b holds is r = let h = r.listens in stops w book n s k h.name h.follow given fresh b holds is h.found (ap (λ (z : NodeState). z.core.up) r.node)
 
 pub master_stops : MasterStopsAreRows
 master_stops w book n s k name f given fresh b holds is found down = stops w book n s k name f given fresh b holds is found down

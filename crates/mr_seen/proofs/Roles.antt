@@ -14,10 +14,10 @@ use Rattle.mr_repl.specs.Backlog.{first_of, bytes_from}
 use Rattle.mr_repl.specs.Lineage.{renamed, standing_of}
 use Rattle.mr_repl.specs.ReplId.{IsId, digits_of}
 use Rattle.mr_repl.specs.Standing.{IsKnown, IsBefore}
-use Rattle.mr_lines.specs.Lines.{status}
-use Rattle.mr_lines.specs.Written.{reply_line, length_line}
-use Rattle.mr_lines.specs.declared.psync.PsyncReply.TheVariants as reply
-use Rattle.mr_lines.proofs.Written.{says_reply, says_length}
+use Rattle.mr_peer_lines.specs.Lines.{status}
+use Rattle.mr_peer_lines.specs.Written.{reply_line, length_line}
+use Rattle.mr_peer_lines.specs.declared.psync.PsyncReply.TheVariants as reply
+use Rattle.mr_peer_lines.proofs.Written.{says_reply, says_length}
 use Rattle.mr_follow.specs.State.{FollowState}
 use Rattle.mr_course.specs.State.{name_of}
 use Rattle.mr_ends.specs.State.{EndState, serves}
@@ -29,7 +29,7 @@ use Rattle.mr_rows.specs.State.{NodeState, FollowedAt, end_of}
 use Rattle.mr_rows.specs.Sound.{IsSound, ports}
 use Rattle.mr_rows.specs.Growing.{Remakes, rebuilt}
 use Rattle.mr_rows.specs.Ends.{names_of}
-use Rattle.mr_plan.specs.Requests.{AsksNode}
+use Rattle.mr_commands.specs.Requests.{AsksNode}
 use Rattle.mr_rows.specs.ClientRows as row
 use Rattle.mr_rows.specs.ClientRows.{ClientRow, IsAnswerToPsync}
 use Rattle.mr_history.specs.Language.{Request}

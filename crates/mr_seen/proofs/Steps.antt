@@ -10,7 +10,7 @@ use Rattle.mr_data.specs.declared.given.Given.{Given}
 use Rattle.mr_repl.specs.Backlog.{last_of}
 use Rattle.mr_groups.specs.Groups.{IsGoodGroup, group_texts}
 use Rattle.mr_groups.specs.Folding.{apply_groups}
-use Rattle.mr_lines.specs.Lines.{most_counted}
+use Rattle.mr_peer_lines.specs.Lines.{most_counted}
 use Rattle.mr_ends.specs.State.{EndState}
 use Rattle.mr_ends.specs.State as ends
 use Rattle.mr_ends.specs.State.EndState.{client, waiting, replica, shut}

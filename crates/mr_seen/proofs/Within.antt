@@ -4,7 +4,7 @@ use Rattle.mr_effect.specs.declared.effect.Effect.{Effect}
 use Rattle.mr_entries.specs.Dataset.{Dataset}
 use Rattle.mr_data.specs.declared.given.Given.{Given}
 use Rattle.mr_resp.specs.Replies.{Tree}
-use Rattle.mr_words.specs.declared.fault.AskFault.{AskFault}
+use Rattle.mr_arguments.specs.declared.fault.AskFault.{AskFault}
 use Rattle.mr_cmd_server.specs.declared.server_ask.ServerAsk.{ServerAsk}
 use Rattle.mr_cmd_server.specs.declared.server_ask.ServerAsk.TheVariants as server
 use Rattle.mr_cmd_node.specs.declared.node_ask.NodeAsk.{NodeAsk}
@@ -13,12 +13,12 @@ use Rattle.mr_ask.specs.Asks.{asked}
 use Rattle.mr_ask.specs.declared.ask.Ask.{Ask}
 use Rattle.mr_ask.specs.declared.ask.Ask.TheVariants as ask
 use Rattle.mr_groups.specs.Groups.{as_group, group_texts, grown_text}
-use Rattle.mr_plan.specs.Transactions.{Coming, DoesAll, coming, coming_by}
-use Rattle.mr_plan.specs.Transactions.Coming.{waits, marks, nests, drops, ends, quits}
-use Rattle.mr_plan.proofs.Doing.{do_nothing, do_so, have_none}
+use Rattle.mr_commands.specs.Transactions.{Coming, DoesAll, coming, coming_by}
+use Rattle.mr_commands.specs.Transactions.Coming.{waits, marks, nests, drops, ends, quits}
+use Rattle.mr_commands.proofs.Doing.{do_nothing, do_so, have_none}
 use Rattle.mr_repl.specs.Backlog.{IsWindow, last_of}
 use Rattle.mr_repl.specs.Lineage.{grown}
-use Rattle.mr_lines.specs.Lines.{most_counted}
+use Rattle.mr_peer_lines.specs.Lines.{most_counted}
 use Rattle.mr_ends.specs.State as ends
 use Rattle.mr_ends.specs.State.{with_text, as_marked}
 use Rattle.mr_outs.specs.Outs.{OutsState}

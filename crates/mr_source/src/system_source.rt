@@ -1,4 +1,4 @@
-ghost use Rattle.std.specs.Prelude.{◌≢◌, IfSome};
+ghost use Rattle.std.specs.Prelude.{◌≢◌, IfSome, None};
 ghost use Rattle.mr_repl.specs.ReplId.{zero_id};
 ghost use Rattle.mr_data.specs.Given.{IsMoment};
 
@@ -62,6 +62,8 @@ fn clock(rt: &HostRuntime) -> Option<i64>
 
 impl Source for SystemSource {
     ghost clock = { λ s. s.last };
+
+    ghost drawn = { λ _. None };
 
     /// A clock that fails says what it said last.
     fn now(&mut self) -> i64 {

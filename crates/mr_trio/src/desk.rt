@@ -6,12 +6,10 @@ ghost use Rattle.mr_console.specs.Faults.{IsInner};
 use crate::faults::of_client;
 use mr_client::Client;
 use mr_console::{HOST, Place, TrioFault};
+use mr_file::PIECE;
 use mr_wire::{SocketWire, Wire};
 use std::alloc::Global;
 use std::borrow::CowSlice;
-
-/// So many bytes are read at once.
-const PIECE: usize = 65_536;
 
 /// So many milliseconds the client waits at most for something to come.
 const LONGEST_WAIT: u64 = 1;

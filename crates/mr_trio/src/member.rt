@@ -14,15 +14,12 @@ use mr_data::Dataset;
 use mr_loop::{Links, turn};
 use mr_node::{Config, Node, Role};
 use mr_outs::Address;
-use mr_repl::ReplId;
+use mr_repl::{ReplId, USUAL_BACKLOG};
 use mr_source::Source;
 use mr_wire::SocketWire;
 use std::alloc::Global;
 use std::hash::RandomState;
 use std::net::{Ipv4Addr, SocketAddr};
-
-/// So many bytes of its stream a node keeps for its replicas.
-const BACKLOG: usize = 1_048_576;
 
 /// A node, and what its turns need.
 pub(crate) struct Member {
@@ -143,7 +140,7 @@ fn begun(
     let Ok(links) = Links::new(alloc, seed) else {
         return Err(TrioFault::Stopped);
     };
-    let Some(config) = Config::new(false, port, BACKLOG) else {
+    let Some(config) = Config::new(false, port, USUAL_BACKLOG) else {
         unreachable!()
     };
     match Node::start(alloc, id, Dataset::new(alloc, seed), config) {

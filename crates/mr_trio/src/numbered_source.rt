@@ -1,5 +1,5 @@
 // What the nodes are given from outside.
-ghost use Rattle.std.specs.Prelude.{◌≡◌, ◌≢◌, ◌≤◌, pos};
+ghost use Rattle.std.specs.Prelude.{◌≡◌, ◌≢◌, ◌≤◌, None, pos};
 ghost use Rattle.mr_repl.specs.ReplId.{id_of_number, zero_id};
 ghost use Rattle.mr_data.specs.Given.{IsMoment};
 ghost use Rattle.mr_trio.specs.Numbers.{plus};
@@ -39,6 +39,9 @@ impl NumberedSource {
 
 impl Source for NumberedSource {
     ghost clock = { λ _. pos 0 };
+
+    /// In the next turn ids are drawn again that a turn didn't use: it tells none.
+    ghost drawn = { λ _. None };
 
     fn now(&mut self) -> i64
         ensures moment { IsMoment result }

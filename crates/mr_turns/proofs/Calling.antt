@@ -36,7 +36,7 @@ carried (follow address ∷ outs) s t c = subst (λ (z : NodeState). AreCalls z 
 carried (halt ∷ outs) s t c = subst (λ (z : NodeState). AreCalls z (closings outs) t.node) (ap (λ (z : Stage). z.node) c.1) (carried outs c.0 t c.2)
 
 called : (act : Act) (s m : Stage) (outs : OutsState) → Calls act s m outs → IsCall s.node (call_of act outs) m.node
-called (at_step socket link given fresh) s m outs h = h.stepped.row
+called (at_step socket link given fresh news) s m outs h = h.stepped.row
 called (at_tick given) s m outs h = h.row
 called (at_dial socket link) s m outs h = h.dials
 
@@ -87,7 +87,7 @@ module _ (tells : Bool) (mode : SyncMode) where
   by (misses_tick given) s t goes_on h = record { calls = []; are = ap (λ (z : Stage). z.node) h.is; made = refl }
   by misses_dial s t goes_on h = let c = opens_none s.node t.node h.node in record { calls = c.0; are = c.1; made = c.2 }
   by (settles hurries) s t goes_on h = record { calls = []; are = ap (λ (z : Stage). z.node) h.is; made = refl }
-  by stops s t goes_on h = absurd (no_fault goes_on)
+  by (stops stop) s t goes_on h = absurd (no_fault goes_on)
 
   all : (es : List Event) (s t : Stage) → Run tells mode s es t → IsByCalls es s.node t.node
   all [] s t run = record { calls = []; are = ap (λ (z : Stage). z.node) run; made = refl }

@@ -1,5 +1,5 @@
 -- That the file is kept, event by event, and what a fault leaves of it.
-use Rattle.std.proofs.Common.{◌≡◌, ◌++◌, ◌≤◌, ◌⊎◌, inl, inr, ℕ, zero, suc, List, [], ◌∷◌, Bool, true, Option, None, Some, Result, Ok, Err, take, drop, length, take_all, append-nil, refl, sym, ap, subst, ◌∙◌, arith}
+use Rattle.std.proofs.Common.{◌≡◌, ◌++◌, ◌≤◌, ◌⊎◌, inl, inr, ℕ, ℤ, zero, suc, List, [], ◌∷◌, Bool, true, Option, None, Some, Result, Ok, Err, take, drop, length, take_all, append-nil, refl, sym, ap, subst, ◌∙◌, arith}
 use Rattle.std.proofs.lemmas.List.{take-append-drop}
 use Rattle.std.specs.FinMap.{empty}
 use Rattle.mr_links.specs.declared.link_id.LinkId.{LinkId}
@@ -7,7 +7,7 @@ use Rattle.mr_entries.specs.Dataset.{Dataset}
 use Rattle.mr_data.specs.declared.given.Given.{Given}
 use Rattle.mr_groups.specs.Folding.{LeadsByGroups, MakesByGroups}
 use Rattle.mr_groups.proofs.Runs.{leads_nowhere}
-use Rattle.mr_groups.proofs.Going.{leads_further}
+use Rattle.mr_groups.proofs.Going.{leads_further, makes_further}
 use Rattle.mr_groups.proofs.Singles.{makes_by_singles}
 use Rattle.mr_file.specs.declared.sync_mode.SyncMode.{SyncMode}
 use Rattle.mr_course.specs.State.{name_of}
@@ -60,7 +60,7 @@ pub kept_whole : KeptFilesAreWhole
 kept_whole s none k =
     let held : Dataset = s.node.core.held in
     let rest : LeadsByGroups [] k.filed held = subst (λ (z : List ℕ). LeadsByGroups z k.filed held) none k.waiting in
-    let made : MakesByGroups k.file held = subst (λ (z : List ℕ). MakesByGroups z held) (append-nil k.file) (leads_further k.file [] empty k.filed held k.made rest) in
+    let made : MakesByGroups k.file held = subst (λ (z : List ℕ). MakesByGroups z held) (append-nil k.file) (makes_further k.file [] k.filed held k.made rest) in
     record { file = k.file; told = k.told; loads = read_whole k.file held made }
 
 -- ---- what the node does
@@ -109,13 +109,13 @@ module _ (a b : NodeState) (l : LinkId) (given : Given) (fresh : List ℕ) (u : 
 
 -- what a call does to the file
 called_files : (act : Act) (s m : Stage) (outs : OutsState) → Calls act s m outs → Files s.node m.node outs
-called_files (at_step socket link given fresh) s m outs h = let i = h.stepped.input.unread in filed s.node m.node link given fresh i.bytes i.up outs i.agree h.stepped.row
+called_files (at_step socket link given fresh news) s m outs h = let i = h.stepped.input.unread in filed s.node m.node link given fresh i.bytes i.up outs i.agree h.stepped.row
 called_files (at_tick given) s m outs h = ticks_file s.node m.node given.now outs h.row
 called_files (at_dial socket link) s m outs h = (kept_stay s.node m.node outs [] (dials_keep s.node m.node link outs h.dials)).0
 
 -- .. which it doesn't do itself
 called_has : (act : Act) (s m : Stage) (outs : OutsState) → Calls act s m outs → (k : IsKept s) → Has m (record { file = k.file; batch = s.own.batch })
-called_has (at_step socket link given fresh) s m outs h k = record { told = ap (λ (z : Stage). z.told) h.same ∙ k.told; batch = ap (λ (z : Stage). z.own.batch) h.same }
+called_has (at_step socket link given fresh news) s m outs h k = record { told = ap (λ (z : Stage). z.told) h.same ∙ k.told; batch = ap (λ (z : Stage). z.own.batch) h.same }
 called_has (at_tick given) s m outs h k = record { told = ap (λ (z : Stage). z.told) h.same ∙ k.told; batch = ap (λ (z : Stage). z.own.batch) h.same }
 called_has (at_dial socket link) s m outs h k = record { told = h.file.0 ∙ k.told; batch = h.batch }
 
@@ -200,7 +200,7 @@ appended mode texts s t a k =
       file = k.file ++ texts;
       told = now ∙ ap (λ (z : List ℕ). Some (k.file ++ z)) all;
       filed = s.node.core.held;
-      made = leads_further k.file texts empty k.filed s.node.core.held k.made rest;
+      made = makes_further k.file texts k.filed s.node.core.held k.made rest;
       waiting = subst (λ (d : Dataset). LeadsByGroups t.own.batch s.node.core.held d) (sym held) (subst (λ (z : List ℕ). LeadsByGroups z s.node.core.held s.node.core.held) (sym (batch_of a.own)) (leads_nowhere s.node.core.held));
     }
 
@@ -233,7 +233,7 @@ module _ (tells : Bool) (mode : SyncMode) where
   kept (misses_tick given) s t goes_on h k = stay s t (ap (λ (z : Stage). z.told) h.is) (ap (λ (z : Stage). z.own.batch) h.is) (ap (λ (z : Stage). z.node.core.held) h.is) k
   kept misses_dial s t goes_on h k = stay s t h.file.0 (batch_of h.own) (held_of (turned_core s.node t.node h.node)) k
   kept (settles hurries) s t goes_on h k = stay s t (ap (λ (z : Stage). z.told) h.is) (ap (λ (z : Stage). z.own.batch) h.is) (ap (λ (z : Stage). z.node.core.held) h.is) k
-  kept stops s t goes_on h k = absurd (no_fault goes_on)
+  kept (stops stop) s t goes_on h k = absurd (no_fault goes_on)
 
   run_kept : (es : List Event) (s t : Stage) → Run tells mode s es t → IsKept s → IsKept t
   run_kept [] s t run k = subst IsKept (sym run) k
@@ -242,13 +242,13 @@ module _ (tells : Bool) (mode : SyncMode) where
 pub turns_keep : TurnsKeep
 turns_keep tells mode s t w k = run_kept tells mode w.events s t w.run k
 
-turns_on_keep : (tells : Bool) (mode : SyncMode) (count : ℕ) (s t : Stage) → TurnsOn tells mode count s t → IsKept s → IsKept t
-turns_on_keep tells mode zero s t same k = subst IsKept (sym same) k
-turns_on_keep tells mode (suc count) s t on k = turns_keep tells mode on.0 t on.2.tells_of.went (turns_on_keep tells mode count s on.0 on.1 k)
+turns_on_keep : (tells : Bool) (mode : SyncMode) (count : ℕ) (drawn after : Option (List (List ℕ))) (s t : Stage) → TurnsOn tells mode count drawn after s t → IsKept s → IsKept t
+turns_on_keep tells mode zero drawn after s t same k = subst IsKept (sym same.0) k
+turns_on_keep tells mode (suc count) drawn after s t on k = turns_keep tells mode on.0 t on.3.tells_of.went (turns_on_keep tells mode count drawn on.1 s on.0 on.2 k)
 
-served : (tells : Bool) (mode : SyncMode) (turns : ℕ) (s t : Stage) → Serves tells mode turns (Ok tt) s t → IsKept s → IsKept t
-served tells mode turns s t h k =
-    let before : IsKept h.before = turns_on_keep tells mode h.count s h.before h.went k in
+served : (tells : Bool) (mode : SyncMode) (turns : ℕ) (drawn after : Option (List (List ℕ))) (s t : Stage) → Serves tells mode turns (Ok tt) drawn after s t → IsKept s → IsKept t
+served tells mode turns drawn after s t h k =
+    let before : IsKept h.before = turns_on_keep tells mode h.count drawn h.between s h.before h.went k in
     elim h.last [
       | inl all ↦ subst IsKept (sym all.1) before
       | inr halts ↦ turns_keep tells mode h.before t halts.1.tells_of.went before
@@ -256,8 +256,8 @@ served tells mode turns s t h k =
 
 pub turns_leave_whole : TurnsLeaveWhole
 turns_leave_whole tells mode s t none after w = (
-  λ now turn h. kept_whole t after (turns_keep tells mode s t h.went (whole_kept s none w)),
-  λ turns h. kept_whole t after (served tells mode turns s t h (whole_kept s none w)),
+  λ now unused drawn behind turn h. kept_whole t after (turns_keep tells mode s t h.went (whole_kept s none w)),
+  λ turns drawn behind h. kept_whole t after (served tells mode turns drawn behind s t h (whole_kept s none w)),
 )
 
 -- ---- behind a fault
@@ -311,21 +311,21 @@ module _ (tells : Bool) (mode : SyncMode) (why : LoopFault) where
   torn_by (misses_tick given) s t is h k = absurd (none_some why is)
   torn_by misses_dial s t is h k = absurd (none_some why is)
   torn_by (settles hurries) s t is h k = absurd (none_some why is)
-  torn_by stops s t is h k = whole_torn t k.file k.filed (h.file.0 ∙ k.told) k.made
+  torn_by (stops stop) s t is h k = whole_torn t k.file k.filed (h.file.0 ∙ k.told) k.made
 
-  broke_torn : (s t : Stage) → IsKept s → Broke tells mode why s t → IsTorn t
-  broke_torn s t k b = torn_by b.last b.before t b.told b.happens (turns_keep tells mode s b.before b.went k)
+  broke_torn : (now : ℤ) (unused : List (List ℕ)) (drawn after : Option (List (List ℕ))) (s t : Stage) → IsKept s → Broke tells mode now unused drawn after why s t → IsTorn t
+  broke_torn now unused drawn after s t k b = torn_by b.last b.before t b.told b.happens (turns_keep tells mode s b.before b.went k)
 
 torn_same : (s t : Stage) → t.told ≡ s.told → IsTorn s → IsTorn t
 torn_same s t same i = record { front = i.front; torn = i.torn; told = same ∙ i.told; filed = i.filed; made = i.made; more = i.more; next = i.next; leads = i.leads }
 
-fault_tears : (tells : Bool) (mode : SyncMode) (why : LoopFault) (s t : Stage) → IsKept s → Fails tells mode why s t → IsTorn t
-fault_tears tells mode fault.Listener s t k c = whole_torn t k.file k.filed (ap (λ (z : Stage). z.told) c.is ∙ k.told) k.made
-fault_tears tells mode fault.File s t k b = torn_same b.behind t (ap (λ (z : Stage). z.told) b.stopped.is) (broke_torn tells mode fault.File s b.behind k b.broke)
-fault_tears tells mode fault.Stopped s t k b = torn_same b.behind t (ap (λ (z : Stage). z.told) b.stopped.is) (broke_torn tells mode fault.Stopped s b.behind k b.broke)
+fault_tears : (tells : Bool) (mode : SyncMode) (why : LoopFault) (now : ℤ) (unused : List (List ℕ)) (drawn after : Option (List (List ℕ))) (s t : Stage) → IsKept s → Fails tells mode now unused drawn after why s t → IsTorn t
+fault_tears tells mode fault.Listener now unused drawn after s t k c = whole_torn t k.file k.filed (ap (λ (z : Stage). z.told) c.is ∙ k.told) k.made
+fault_tears tells mode fault.File now unused drawn after s t k b = torn_same b.behind t (ap (λ (z : Stage). z.told) b.stopped.is) (broke_torn tells mode fault.File now unused drawn after s b.behind k b.broke)
+fault_tears tells mode fault.Stopped now unused drawn after s t k b = torn_same b.behind t (ap (λ (z : Stage). z.told) b.stopped.is) (broke_torn tells mode fault.Stopped now unused drawn after s b.behind k b.broke)
 
 pub faults_tear : FaultsTear
 faults_tear tells mode why s t k = (
-  fault_tears tells mode why s t k,
-  λ turns h. fault_tears tells mode why h.before t (turns_on_keep tells mode h.count s h.before h.went k) h.last.1,
+  λ now unused drawn after. fault_tears tells mode why now unused drawn after s t k,
+  λ turns drawn after h. fault_tears tells mode why h.last.1 [] h.between after h.before t (turns_on_keep tells mode h.count drawn h.between s h.before h.went k) h.last.2,
 )

@@ -57,7 +57,7 @@ closings (follow address ∷ outs) = closings outs
 closings (halt ∷ outs) = closings outs
 
 abbrev pub call_of : Act → OutsState → NodeCall
-call_of (at_step socket link given fresh) outs = step link given fresh (Ok (answer.Done outs))
+call_of (at_step socket link given fresh news) outs = step link given fresh (Ok (answer.Done outs))
 call_of (at_tick given) outs = tick given outs
 call_of (at_dial socket link) outs = dial link outs
 
@@ -96,7 +96,7 @@ Makes (settles hurries) calls = calls ≡ []
 Makes (spills act outs) calls = ⊥
 Makes (tears act outs) calls = ⊥
 Makes fails calls = ⊥
-Makes stops calls = ⊥
+Makes (stops stop) calls = ⊥
 
 -- those of some events, one event's behind another's
 abbrev pub MakesAll : List Event → List NodeCall → Type 0

@@ -1,5 +1,5 @@
 -- What the file says of its node in the event loop: within turns, between them, and behind a fault.
-use Rattle.std.specs.Prelude.{◌≡◌, ◌++◌, ℕ, ℤ, List, [], Bool, Some, Ok, Err, length}
+use Rattle.std.specs.Prelude.{◌≡◌, ◌++◌, ℕ, ℤ, List, [], Bool, Option, Some, Ok, Err, length}
 use Rattle.mr_entries.specs.Dataset.{Dataset}
 use Rattle.mr_groups.specs.Folding.{LeadsByGroups, LoadsGroups, MakesByGroups}
 use Rattle.mr_file.specs.declared.sync_mode.SyncMode.{SyncMode}
@@ -48,9 +48,11 @@ TurnsKeep = (tells : Bool) (mode : SyncMode) (s t : Stage) → Went tells mode s
 -- behind a turn that went well, and behind turns one after another
 abbrev pub TurnsLeaveWhole : Type 0
 TurnsLeaveWhole = (tells : Bool) (mode : SyncMode) (s t : Stage) → s.own.batch ≡ [] → t.own.batch ≡ [] → IsWhole s
-    → ((now : ℤ) (turn : Turn) → Turns tells mode now (Ok turn) s t → IsWhole t) × ((turns : ℕ) → Serves tells mode turns (Ok tt) s t → IsWhole t)
+    → ((now : ℤ) (unused : List (List ℕ)) (drawn after : Option (List (List ℕ))) (turn : Turn) → Turns tells mode now unused drawn after (Ok turn) s t → IsWhole t)
+    × ((turns : ℕ) (drawn after : Option (List (List ℕ))) → Serves tells mode turns (Ok tt) drawn after s t → IsWhole t)
 
 -- ---- behind a fault, of one turn or of the last of some
 abbrev pub FaultsTear : Type 0
 FaultsTear = (tells : Bool) (mode : SyncMode) (why : LoopFault) (s t : Stage) → IsKept s
-    → (Fails tells mode why s t → IsTorn t) × ((turns : ℕ) → Serves tells mode turns (Err why) s t → IsTorn t)
+    → ((now : ℤ) (unused : List (List ℕ)) (drawn after : Option (List (List ℕ))) → Fails tells mode now unused drawn after why s t → IsTorn t)
+    × ((turns : ℕ) (drawn after : Option (List (List ℕ))) → Serves tells mode turns (Err why) drawn after s t → IsTorn t)

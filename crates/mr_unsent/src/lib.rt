@@ -3,4 +3,4 @@
 
 mod unsent;
 
-pub use unsent::{MOST_UNSENT, Unsent};
+pub use unsent::Unsent;

@@ -1,10 +1,11 @@
 ghost use Rattle.std.specs.Prelude.{◌≡◌, ◌++◌, ◌<◌, ◌≤◌, ◌↔◌, [], length, drop, IsTrue, OnOk, OnErr};
+ghost use Rattle.mr_unsent.specs.Limits.{most_unsent};
 
 use std::alloc::{AllocError, Global};
 use std::marker::Model;
 
-/// A client on whose link more bytes wait is closed in place of its next step.
-pub const MOST_UNSENT: usize = 67_108_864;
+/// A client on whose link more bytes wait is closed in place of its next step: 64 MiB.
+const MOST_UNSENT: usize = 67_108_864;
 
 /// No more room than this is ever given back.
 const LEAST_ROOM: usize = 65_536;
@@ -70,7 +71,7 @@ impl Unsent {
 
     /// Whether more waits than a client may leave unread.
     pub fn is_too_much(&self) -> bool
-        ensures { IsTrue result ↔ (67_108_864 < length self.now) }
+        ensures { IsTrue result ↔ (most_unsent < length self.now) }
     {
         self.waiting().len() > MOST_UNSENT
     }

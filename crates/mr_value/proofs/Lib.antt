@@ -1,9 +1,6 @@
 pub mod SetLemmas
-pub mod Numbers
+pub mod NamedLemmas
 pub mod Removals
 pub mod Passing
 pub mod Backwards
-pub mod Windows
 pub mod Uniform
-pub mod Places
-pub mod Texts

@@ -27,7 +27,7 @@ abbrev Set : Type 0
 Set = ByteMap (Unit {0})
 
 -- whether these bytes are the member
-abbrev is_same : List ℕ → List ℕ → Bool
+abbrev pub is_same : List ℕ → List ℕ → Bool
 is_same q k = eq_by_cmp bytes_cmp q k
 
 -- whether one of the members is these bytes
@@ -39,7 +39,7 @@ tied Less e = cc
 tied Equal e = refl
 tied Greater e = cc
 
-same_bytes : (q k : List ℕ) → is_same q k ≡ true → q ≡ k
+pub same_bytes : (q k : List ℕ) → is_same q k ≡ true → q ≡ k
 same_bytes q k e = exact_bytes q k (tied _ e)
 
 or_true : (a : Bool) → (a || true) ≡ true
@@ -195,7 +195,7 @@ module _ (k : List ℕ) (xs ys : List (List ℕ)) (t : Option (List ℕ)) (taken
 bare : List (List ℕ) → List (List ℕ × Unit {0})
 bare ks = map {B = List ℕ × Unit {0}} (λ k. (k, tt)) ks
 
-nothing : {A : Type 0} (es : List A) → length es ≡ 0 → es ≡ []
+pub nothing : {A : Type 0} (es : List A) → length es ≡ 0 → es ≡ []
 nothing [] e = refl
 nothing (x ∷ es) e = absurd (omega arith)
 

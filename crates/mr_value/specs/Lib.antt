@@ -1,7 +1,4 @@
 pub mod Compact
 pub mod Lists
 pub mod Members
-pub mod Number
-pub mod Texts
-pub mod Window
-pub mod Words
+pub mod Named

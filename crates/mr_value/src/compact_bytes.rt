@@ -5,11 +5,10 @@ ghost use Rattle.std.specs.Cmp.{eq_by_cmp_equiv, partial_equiv_from_equiv, parti
 ghost use Rattle.std.specs.Cmp.Lexicographic.{nat_list_cmp_total};
 ghost use Rattle.std.specs.Ordering.{as_partial_cmp, eq_by_cmp};
 ghost use Rattle.std.proofs.Common.{refl};
-ghost use Rattle.mr_map.specs.Bytes.{bytes_cmp};
+ghost use Rattle.mr_map.specs.Bytes.{bytes_cmp, held_bytes};
 
-use crate::bytes::Bytes;
-use crate::word::Word;
-use mr_map::ShortKey;
+use mr_bytes::{Bytes, Word};
+use mr_map::{HeldKey, ShortKey};
 use mr_order::Query;
 use std::alloc::{AllocError, Global};
 use std::cmp::Ordering;
@@ -75,6 +74,16 @@ impl CompactBytes {
         match ShortKey::of(bytes.as_slice()) {
             Some(short) => CompactBytes::of_short(short),
             None => CompactBytes::of_long(bytes.into_vec()),
+        }
+    }
+
+    /// The bytes of a key that a map held, which stay where they are. It takes no memory.
+    pub fn from_held(key: HeldKey) -> CompactBytes
+        ensures { result ≡ held_bytes key }
+    {
+        match key {
+            HeldKey::Short(short) => CompactBytes::of_short(short),
+            HeldKey::Long(bytes) => CompactBytes::of_long(bytes),
         }
     }
 

@@ -2,8 +2,9 @@
 ghost use Rattle.std.specs.Prelude.{◌≡◌, ◌==◌, ◌<◌, ◌^◌, IfOk, OnOk, OnErr, option_copied};
 ghost use Rattle.std.specs.FinMap as map;
 
-use crate::bytes::Bytes;
-use mr_map::{ByteMap, Keys, Pairs};
+use crate::by_name::ByName;
+use crate::compact_bytes::CompactBytes;
+use crate::named_values::{NamedValues, Names};
 use std::alloc::{AllocError, Global};
 use std::marker::Model;
 
@@ -12,7 +13,7 @@ use std::marker::Model;
 /// Where memory runs out, a hash is as it was.
 #[derive(Drop)]
 pub struct Hash {
-    fields: ByteMap<Bytes>,
+    fields: ByName<CompactBytes>,
 }
 
 impl Model for Hash {
@@ -34,7 +35,7 @@ impl Hash {
         ensures { result ≡ map.empty }
     {
         Hash {
-            fields: ByteMap::new(alloc),
+            fields: ByName::new(alloc),
         }
     }
 
@@ -67,34 +68,38 @@ impl Hash {
     pub fn contains(&self, field: &[u8]) -> bool
         ensures { result ≡ map.contains_key self.now field.now }
     {
-        self.fields.contains_key(field)
+        self.fields.contains(field)
     }
 
     /// The fields, in byte order. It takes no memory.
-    pub fn fields(&self) -> Keys<'_, Bytes>
+    pub fn fields(&self) -> Names<'_, CompactBytes>
         ensures { result ≡ map.keys self.now }
     {
-        self.fields.keys()
+        self.fields.names()
     }
 
     /// The fields with their values, in byte order of fields. It takes no memory.
-    pub fn iter(&self) -> Pairs<'_, Bytes>
+    pub fn iter(&self) -> NamedValues<'_, CompactBytes>
         ensures { result ≡ map.entries self.now }
     {
         self.fields.iter()
     }
 
-    /// Sets the value of a field, and answers the one before.
-    pub fn put(&mut self, field: Bytes, value: Bytes) -> Result<Option<Bytes>, AllocError>
+    /// Sets the value of a field, and answers the one before. A field and a value of few bytes have no memory of their own.
+    pub fn put(
+        &mut self,
+        field: CompactBytes,
+        value: CompactBytes,
+    ) -> Result<Option<CompactBytes>, AllocError>
         ensures before { IfOk result (λ before. before ≡ map.get self.old field) }
         ensures ok { OnOk result (self.new ≡ map.insert self.old field value) }
         ensures err { OnErr result (self.new ≡ self.old) }
     {
-        self.fields.insert(field.into_vec(), value)
+        self.fields.put(field, value)
     }
 
     /// Removes a field, and answers its value.
-    pub fn remove(&mut self, field: &[u8]) -> Option<Bytes>
+    pub fn remove(&mut self, field: &[u8]) -> Option<CompactBytes>
         ensures before { result ≡ map.get self.old field.now }
         ensures removed { self.new ≡ map.remove self.old field.now }
     {

@@ -3,14 +3,14 @@ ghost use Rattle.std.specs.Prelude.{◌≡◌};
 ghost use Rattle.std.specs.Iterator.{YieldsFirstRef, item_count};
 ghost use Rattle.std.specs.VecDeque.Iter.{deque_iter_rest};
 
-use crate::bytes::Bytes;
+use crate::compact_bytes::CompactBytes;
 use std::collections::vec_deque;
 use std::marker::Model;
 
 /// The items that are still to come, seen as a list.
 #[derive(Drop)]
 pub struct Items<'a> {
-    inner: vec_deque::Iter<'a, Bytes>,
+    inner: vec_deque::Iter<'a, CompactBytes>,
 }
 
 impl<'a> Model for Items<'a> {
@@ -24,7 +24,7 @@ impl<'a> Model for Items<'a> {
 
 impl<'a> Items<'a> {
     /// The items that are still to come from a deque's walk.
-    pub(crate) fn new(inner: vec_deque::Iter<'a, Bytes>) -> Self
+    pub(crate) fn new(inner: vec_deque::Iter<'a, CompactBytes>) -> Self
         ensures { result ≡ deque_iter_rest inner.entry }
     {
         Items { inner }

@@ -1,30 +1,25 @@
-//! Byte strings and words, numbers as texts, and the collections that a key may hold.
+//! The collections that a key may hold: lists, hashes and sets, and what they are made of.
 #![tactic(auto)]
 
-mod bytes;
+mod by_name;
 mod compact_bytes;
-mod ends;
 mod hash;
-mod indexes;
 mod items;
 mod laws;
 mod list_value;
 mod matching;
 mod members;
-mod number;
+mod named;
+mod named_values;
 mod removing;
 mod set_value;
-mod word;
 
-pub use bytes::Bytes;
+pub use by_name::ByName;
 pub use compact_bytes::CompactBytes;
-pub use ends::{End, Side};
 pub use hash::Hash;
-pub use indexes::{place, window};
 pub use items::Items;
-pub use laws::{number_texts, removals_mirrored, uniform_lists, window_places};
+pub use laws::{removals_mirrored, uniform_lists};
 pub use list_value::ListValue;
 pub use members::Members;
-pub use number::{read_i64, write_i64};
+pub use named_values::{NamedValues, Names};
 pub use set_value::SetValue;
-pub use word::{Word, fits};

@@ -2,7 +2,7 @@
 ghost use Rattle.std.specs.Prelude.{◌≡◌, ◌+◌, ◌-◌, ◌<◌, ◌≤◌, ◌^◌, ◌↔◌, ◌==◌, List, [], ◌∷◌, ◌++◌, length, take, drop, insert, slice_get, slice_set, slice_range, is_some, Some, None, Ok, false, IfOk, IfSome, OnOk, OnErr, MatchOption, option_copied};
 ghost use Rattle.mr_value.specs.Lists.{are_equal, first_place, count_of, with_before, with_after, without, removed_count};
 
-use crate::bytes::Bytes;
+use crate::compact_bytes::CompactBytes;
 use crate::items::Items;
 use crate::{matching, removing};
 use std::alloc::{AllocError, Global};
@@ -15,7 +15,7 @@ use std::mem::replace;
 /// Where memory runs out, a list is as it was.
 #[derive(Drop)]
 pub struct ListValue {
-    items: VecDeque<Bytes>,
+    items: VecDeque<CompactBytes>,
 }
 
 impl Model for ListValue {
@@ -117,7 +117,7 @@ impl ListValue {
     }
 
     /// Puts an item in front.
-    pub fn push_front(&mut self, item: Bytes) -> Result<(), AllocError>
+    pub fn push_front(&mut self, item: CompactBytes) -> Result<(), AllocError>
         ensures ok { OnOk result (self.new ≡ item ∷ self.old) }
         ensures err { OnErr result (self.new ≡ self.old) }
     {
@@ -125,7 +125,7 @@ impl ListValue {
     }
 
     /// Puts an item at the back.
-    pub fn push_back(&mut self, item: Bytes) -> Result<(), AllocError>
+    pub fn push_back(&mut self, item: CompactBytes) -> Result<(), AllocError>
         ensures ok { OnOk result (self.new ≡ self.old ++ item ∷ []) }
         ensures err { OnErr result (self.new ≡ self.old) }
     {
@@ -133,14 +133,14 @@ impl ListValue {
     }
 
     /// Takes the item in front.
-    pub fn pop_front(&mut self) -> Option<Bytes>
+    pub fn pop_front(&mut self) -> Option<CompactBytes>
         ensures { MatchOption result ((self.old ≡ []) × (self.new ≡ [])) (λ item. self.old ≡ item ∷ self.new) }
     {
         self.items.pop_front()
     }
 
     /// Takes the item at the back.
-    pub fn pop_back(&mut self) -> Option<Bytes>
+    pub fn pop_back(&mut self) -> Option<CompactBytes>
         ensures { MatchOption result ((self.old ≡ []) × (self.new ≡ [])) (λ item. self.old ≡ self.new ++ item ∷ []) }
     {
         self.items.pop_back()
@@ -189,7 +189,7 @@ impl ListValue {
     }
 
     /// Puts an item in another's place, and answers the one before.
-    pub fn set(&mut self, place: usize, item: Bytes) -> Bytes
+    pub fn set(&mut self, place: usize, item: CompactBytes) -> CompactBytes
         requires { place < length self.old }
         ensures before { slice_get self.old place ≡ Some result }
         ensures set { self.new ≡ slice_set self.old place item }
@@ -201,7 +201,7 @@ impl ListValue {
     }
 
     /// Puts an item at a place, before the item that stands there.
-    pub fn insert(&mut self, place: usize, item: Bytes) -> Result<(), AllocError>
+    pub fn insert(&mut self, place: usize, item: CompactBytes) -> Result<(), AllocError>
         requires { place ≤ length self.old }
         ensures ok { OnOk result (self.new ≡ insert self.old place item) }
         ensures err { OnErr result (self.new ≡ self.old) }
@@ -211,7 +211,7 @@ impl ListValue {
 
     /// Puts an item before the first pivot, and answers whether there is a pivot.
     #[tactic(auto, unfolding(crate::specs::Lists::with_before))]
-    pub fn insert_before(&mut self, pivot: &[u8], item: Bytes) -> Result<bool, AllocError>
+    pub fn insert_before(&mut self, pivot: &[u8], item: CompactBytes) -> Result<bool, AllocError>
         ensures found { IfOk result (λ found. found ≡ is_some (first_place pivot.now self.old)) }
         ensures ok { OnOk result (self.new ≡ with_before pivot.now item self.old) }
         ensures err { OnErr result (self.new ≡ self.old) }
@@ -228,7 +228,7 @@ impl ListValue {
 
     /// Puts an item after the first pivot, and answers whether there is a pivot.
     #[tactic(auto, unfolding(crate::specs::Lists::with_after))]
-    pub fn insert_after(&mut self, pivot: &[u8], item: Bytes) -> Result<bool, AllocError>
+    pub fn insert_after(&mut self, pivot: &[u8], item: CompactBytes) -> Result<bool, AllocError>
         ensures found { IfOk result (λ found. found ≡ is_some (first_place pivot.now self.old)) }
         ensures ok { OnOk result (self.new ≡ with_after pivot.now item self.old) }
         ensures err { OnErr result (self.new ≡ self.old) }
@@ -263,7 +263,7 @@ impl ListValue {
 }
 
 /// Drops so many items in front, or all.
-fn drop_front(items: &mut VecDeque<Bytes>, count: usize)
+fn drop_front(items: &mut VecDeque<CompactBytes>, count: usize)
     ensures { items.new.items ≡ drop count items.old.items }
 {
     for _ in 0..count.min(items.len()) {

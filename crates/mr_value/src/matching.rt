@@ -4,11 +4,11 @@ ghost use Rattle.std.specs.Str.{bytes_eq};
 ghost use Rattle.std.specs.VecDeque.{deque_len};
 ghost use Rattle.mr_value.specs.Lists.{are_equal, first_place, count_of};
 
-use crate::bytes::Bytes;
+use crate::compact_bytes::CompactBytes;
 use std::collections::VecDeque;
 
 /// Whether an item has these bytes.
-fn matches(other: &Bytes, item: &[u8]) -> bool
+fn matches(other: &CompactBytes, item: &[u8]) -> bool
     ensures { result ≡ bytes_eq other.now item.now }
 {
     other.as_slice() == item
@@ -16,7 +16,7 @@ fn matches(other: &Bytes, item: &[u8]) -> bool
 
 /// The first place of an item.
 #[tactic(auto, unfolding(crate::specs::Lists::first_place))]
-pub(crate) fn first_place(items: &VecDeque<Bytes>, item: &[u8]) -> Option<usize>
+pub(crate) fn first_place(items: &VecDeque<CompactBytes>, item: &[u8]) -> Option<usize>
     ensures place { result ≡ first_place item.now items.now.items }
     ensures within { IfSome result (λ place. place < deque_len items.now) }
 {
@@ -25,7 +25,11 @@ pub(crate) fn first_place(items: &VecDeque<Bytes>, item: &[u8]) -> Option<usize>
 
 /// The place of the first item that equals one, among so many in front.
 #[tactic(auto, unfolding(crate::specs::Lists::first_place))]
-pub(crate) fn place_in_front(items: &VecDeque<Bytes>, len: usize, item: &[u8]) -> Option<usize>
+pub(crate) fn place_in_front(
+    items: &VecDeque<CompactBytes>,
+    len: usize,
+    item: &[u8],
+) -> Option<usize>
     requires { len ≤ deque_len items.now }
     ensures place { result ≡ first_place item.now (take len items.now.items) }
     ensures within { IfSome result (λ place. place < len) }
@@ -34,7 +38,11 @@ pub(crate) fn place_in_front(items: &VecDeque<Bytes>, len: usize, item: &[u8]) -
 }
 
 /// How many stand behind the last item that equals one, among so many at the back.
-pub(crate) fn place_from_back(items: &VecDeque<Bytes>, len: usize, item: &[u8]) -> Option<usize>
+pub(crate) fn place_from_back(
+    items: &VecDeque<CompactBytes>,
+    len: usize,
+    item: &[u8],
+) -> Option<usize>
     requires { len ≤ deque_len items.now }
     ensures place { result ≡ first_place item.now (take len (reverse items.now.items)) }
     ensures within { IfSome result (λ place. place < len) }
@@ -48,7 +56,7 @@ pub(crate) fn place_from_back(items: &VecDeque<Bytes>, len: usize, item: &[u8]) 
 }
 
 /// Whether the item in front of so many at the back has these bytes.
-fn matches_behind(items: &VecDeque<Bytes>, behind: usize, item: &[u8]) -> bool
+fn matches_behind(items: &VecDeque<CompactBytes>, behind: usize, item: &[u8]) -> bool
     requires { behind < deque_len items.now }
     ensures { result ≡ bytes_eq (get_or (reverse items.now.items) behind []) item.now }
 {
@@ -56,14 +64,14 @@ fn matches_behind(items: &VecDeque<Bytes>, behind: usize, item: &[u8]) -> bool
 }
 
 /// How often an item stands there.
-pub(crate) fn count_of(items: &VecDeque<Bytes>, item: &[u8]) -> usize
+pub(crate) fn count_of(items: &VecDeque<CompactBytes>, item: &[u8]) -> usize
     ensures { result ≡ count_of item.now items.now.items }
 {
     items.iter().filter(|other| matches(other, item)).count()
 }
 
 /// How often an item stands there, at most so often. It goes from the front, and on no longer than that.
-pub(crate) fn count_first(items: &VecDeque<Bytes>, most: usize, item: &[u8]) -> usize
+pub(crate) fn count_first(items: &VecDeque<CompactBytes>, most: usize, item: &[u8]) -> usize
     ensures { result ≡ min most (count_of item.now items.now.items) }
 {
     items
@@ -74,7 +82,7 @@ pub(crate) fn count_first(items: &VecDeque<Bytes>, most: usize, item: &[u8]) -> 
 }
 
 /// The same from the back.
-pub(crate) fn count_last(items: &VecDeque<Bytes>, most: usize, item: &[u8]) -> usize
+pub(crate) fn count_last(items: &VecDeque<CompactBytes>, most: usize, item: &[u8]) -> usize
     ensures { result ≡ min most (count_of item.now items.now.items) }
 {
     let mut counted = 0;
@@ -91,7 +99,7 @@ pub(crate) fn count_last(items: &VecDeque<Bytes>, most: usize, item: &[u8]) -> u
 
 /// Whether the items equal one another.
 #[tactic(auto, unfolding(crate::specs::Lists::are_equal))]
-pub(crate) fn are_equal(items: &VecDeque<Bytes>) -> bool
+pub(crate) fn are_equal(items: &VecDeque<CompactBytes>) -> bool
     ensures { result ≡ are_equal items.now.items }
 {
     match items.front() {

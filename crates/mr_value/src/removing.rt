@@ -3,13 +3,13 @@ ghost use Rattle.std.specs.Prelude.{◌≡◌, ◌≤◌, ◌-◌, ◌++◌, dro
 ghost use Rattle.std.specs.VecDeque.{deque_len};
 ghost use Rattle.mr_value.specs.Lists.{count_of, without_first, without_last};
 
-use crate::bytes::Bytes;
+use crate::compact_bytes::CompactBytes;
 use crate::matching::{place_from_back, place_in_front};
 use std::collections::VecDeque;
 
 /// Removes the first items that equal `item`, at most so many, and answers how many. It looks no further than the last
 /// of them, and moves what lies in front of that or what lies behind it, whichever is less.
-pub(crate) fn remove_first(items: &mut VecDeque<Bytes>, most: usize, item: &[u8]) -> usize
+pub(crate) fn remove_first(items: &mut VecDeque<CompactBytes>, most: usize, item: &[u8]) -> usize
     ensures list { items.new.items ≡ without_first most item.now items.old.items }
     ensures removed { result ≡ min most (count_of item.now items.old.items) }
 {
@@ -20,7 +20,7 @@ pub(crate) fn remove_first(items: &mut VecDeque<Bytes>, most: usize, item: &[u8]
 
 /// Removes the first items that equal `item`, at most so many, but leaves the items in front of the last of them behind
 /// the others. How many those are, and how many went.
-fn pass_first(items: &mut VecDeque<Bytes>, most: usize, item: &[u8]) -> (usize, usize)
+fn pass_first(items: &mut VecDeque<CompactBytes>, most: usize, item: &[u8]) -> (usize, usize)
     ensures passed { result.0 ≤ deque_len items.new }
     ensures list { drop (deque_len items.new - result.0) items.new.items ++ take (deque_len items.new - result.0) items.new.items ≡ without_first most item.now items.old.items }
     ensures removed { result.1 ≡ min most (count_of item.now items.old.items) }
@@ -39,7 +39,7 @@ fn pass_first(items: &mut VecDeque<Bytes>, most: usize, item: &[u8]) -> (usize, 
 
 /// Removes the last items that equal `item`, at most so many, and answers how many. It looks and moves as little as
 /// `remove_first`, from the other side.
-pub(crate) fn remove_last(items: &mut VecDeque<Bytes>, most: usize, item: &[u8]) -> usize
+pub(crate) fn remove_last(items: &mut VecDeque<CompactBytes>, most: usize, item: &[u8]) -> usize
     ensures list { items.new.items ≡ without_last most item.now items.old.items }
     ensures removed { result ≡ min most (count_of item.now items.old.items) }
 {
@@ -50,7 +50,7 @@ pub(crate) fn remove_last(items: &mut VecDeque<Bytes>, most: usize, item: &[u8])
 
 /// Removes the last items that equal `item`, at most so many, but leaves the items behind the first of them in front of
 /// the others. How many those are, and how many went.
-fn pass_last(items: &mut VecDeque<Bytes>, most: usize, item: &[u8]) -> (usize, usize)
+fn pass_last(items: &mut VecDeque<CompactBytes>, most: usize, item: &[u8]) -> (usize, usize)
     ensures passed { result.0 ≤ deque_len items.new }
     ensures list { drop result.0 items.new.items ++ take result.0 items.new.items ≡ without_last most item.now items.old.items }
     ensures removed { result.1 ≡ min most (count_of item.now items.old.items) }

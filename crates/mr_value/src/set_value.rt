@@ -4,10 +4,9 @@ ghost use Rattle.std.specs.FinMap as map;
 ghost use Rattle.mr_map.specs.Bytes.{bytes_cmp};
 ghost use Rattle.mr_order.specs.Changes.{IsTaken};
 
-use crate::bytes::Bytes;
 use crate::compact_bytes::CompactBytes;
 use crate::members::Members;
-use crate::word::Word;
+use mr_bytes::{Bytes, Word};
 use mr_map::ShortKey;
 use mr_order::Ordered;
 use std::alloc::{AllocError, Global};

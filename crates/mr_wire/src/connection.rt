@@ -8,7 +8,7 @@ use mio::{Interest, Poll, Token};
 use std::io;
 use std::io::{ErrorKind, Read, Write};
 use std::marker::Model;
-use std::net::{Net, SocketAddr, SocketAddrV4};
+use std::net::{Net, Shutdown, SocketAddr, SocketAddrV4};
 
 /// A socket, and what is known of it without asking the system.
 #[derive(Drop)]
@@ -96,6 +96,18 @@ impl Connection {
         let unfinished = self.unfinished;
         self.unfinished = false;
         unfinished
+    }
+
+    /// Has nothing more come or go. What came before that is still read, and then the end is, or that the link failed.
+    pub(crate) fn hang_up(&mut self)
+        ensures { self.new ≡ self.old }
+    {
+        // a socket that can't be shut down has no peer, which its next call finds out as well
+        let _ = self.stream.shutdown(Shutdown::Both);
+        self.closing = true;
+        self.readable = true;
+        self.writable = true;
+        self.unfinished = true;
     }
 
     /// Remembers an answer.

@@ -82,6 +82,21 @@ impl SocketWire {
         self.lacks_descriptors
     }
 
+    /// Hangs up on a peer: nothing more comes or goes on the link, which stays open until it is closed. It is named behind the next
+    /// wait, and a read of it comes to its end behind what came before. Where it isn't there nothing happens.
+    pub fn hang_up(&mut self, link: LinkId)
+        ensures links { self.new.links ≡ self.old.links }
+        ensures failed { self.new.failed ≡ self.old.failed }
+    {
+        match self.links.get_mut(link) {
+            Some(connection) => {
+                connection.hang_up();
+                self.ready.push(link.index);
+            }
+            None => {}
+        }
+    }
+
     /// Opens a link over a socket, or drops the socket.
     fn open(&mut self, connection: Connection) -> Result<LinkId, Failed>
         ensures ok { IfOk result (λ link. Opens self.old.links link connection self.new.links) }

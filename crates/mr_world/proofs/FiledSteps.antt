@@ -42,7 +42,7 @@ module _ (w v : WorldState) where
   follows l is (Follows.carries h e) = is_as _ e (files.master_steps w h.number h.who.slot h.who.link h.name h.came h.node h.outs is h.who.by.followed h.row)
   follows l is (Follows.fails h e) = is_as _ e (files.stops w h.number h.who.slot (stopped_as h.node) refl)
   follows l is (Follows.waits h) = is_as _ h.carried (files.master_waits w h.number h.who.slot h.who.link h.name h.node is h.who.by.followed h.row)
-  follows l is (Follows.spends h) = is_as _ h.is (files.stops w h.number h.who.slot h.node h.row.down)
+  follows l is (Follows.spends h) = is_as _ h.is (files.stops w h.number h.who.slot h.node (ap (λ (z : NodeState). z.core.up) h.row.node))
   follows l is (Follows.rests r same) = no_file w v w same refl
 
   pub follow_files : (l : ℕ) (fresh : List ℕ) → IsWorld w → FollowCall w l fresh v (Ok tt) → FilesGoOn w v

@@ -141,7 +141,7 @@ module _ (w : WorldState) (l n : ℕ) (name : LinkId) (is : IsWorld w) (who : Is
       who = who;
       node = t.node;
       row = row;
-      still = λ none. no_some name (sym (ap name_of none) ∙ sound.node.only name (ap (λ (z : Links EndState). end_at z name) row.ends ∙ up_end w l n who.link who.slot name who.reader is who.by));
+      still = λ none. no_some name (sym (ap name_of none) ∙ sound.node.only name (ap (λ (z : NodeState). end_at z.ends name) row.node ∙ up_end w l n who.link who.slot name who.reader is who.by));
       is = put;
     }
 
@@ -181,7 +181,7 @@ follows_keep : (w v : WorldState) (l : ℕ) → IsWorld w → Follows w l v → 
 follows_keep w v l is (Follows.carries h e) = subst (λ (z : WorldState). IsWorld z) (sym e) (masters_keep w h.number h.who.slot h.who.link h.name h.came h.node h.outs is h.who.by.followed h.sound h.row)
 follows_keep w v l is (Follows.fails h e) = subst (λ (z : WorldState). IsWorld z) (sym e) (stops_world w h.number h.who.slot (stopped_as h.node) is h.who.by.followed.at refl)
 follows_keep w v l is (Follows.waits h) = subst (λ (z : WorldState). IsWorld z) (sym h.carried) (waits_keep w h.number h.who.slot h.who.link h.name h.node is h.who.by.followed h.sound h.row)
-follows_keep w v l is (Follows.spends h) = subst (λ (z : WorldState). IsWorld z) (sym h.is) (stops_world w h.number h.who.slot h.node is h.who.by.followed.at h.row.down)
+follows_keep w v l is (Follows.spends h) = subst (λ (z : WorldState). IsWorld z) (sym h.is) (stops_world w h.number h.who.slot h.node is h.who.by.followed.at (ap (λ (z : NodeState). z.core.up) h.row.node))
 follows_keep w v l is (Follows.rests r same) = subst (λ (z : WorldState). IsWorld z) (sym same) is
 
 pub follow_keeps : (w v : WorldState) (l : ℕ) (fresh : List ℕ) (r : Result (Unit {0}) Refusal) → IsWorld w → FollowCall w l fresh v r → IsWorld v

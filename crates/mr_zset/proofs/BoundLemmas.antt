@@ -7,8 +7,8 @@ use Rattle.std.specs.Char.{to_ascii_lowercase}
 use Rattle.std.proofs.lemmas.List.{append-nil}
 use Rattle.std.proofs.lemmas.Bool.{eqb-true, ltb-true, ne_eqb}
 use Rattle.std.proofs.lemmas.Bool.Decides.{nat_tests}
-use Rattle.mr_value.proofs.Numbers.{bounds, digit, each_is_digit, equal_bytes, same_bytes}
-use Rattle.mr_value.specs.Number.{is_i64}
+use Rattle.mr_bytes.proofs.Numbers.{bounds, digit, each_is_digit, equal_bytes, same_bytes}
+use Rattle.mr_bytes.specs.Number.{is_i64}
 use Rattle.mr_score.specs.Texts.{IsScoreText, score_of}
 use Rattle.mr_score.proofs.TextLemmas.{read_spelled, score_fits, spelled_read}
 use Rattle.mr_zset.specs.declared.bound.Bound.{Bound}

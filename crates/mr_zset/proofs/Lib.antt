@@ -1,7 +1,6 @@
 pub mod Orders
 pub mod PairLemmas
 pub mod Cuts
-pub mod ScoredLemmas
 pub mod StoredLemmas
 pub mod StoredChanges
 pub mod BoundLemmas

@@ -3,6 +3,5 @@ pub mod Limits
 pub mod Order
 pub mod Pairs
 pub mod Score
-pub mod Scored
 pub mod Stored
 pub mod Texts

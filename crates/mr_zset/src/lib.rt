@@ -9,8 +9,6 @@ mod member_scores;
 mod pair;
 mod query;
 mod ranked;
-mod scored;
-mod scores;
 mod sorted_set;
 mod stored;
 

@@ -8,19 +8,19 @@ use crate::bound::Bound;
 use crate::entry::Entry;
 use crate::member_scores::MemberScores;
 use crate::pair::Pair;
-use crate::scores::Scores;
 use crate::stored::{
     copied, drop_first, drop_last, pair_at, pairs_between, place_of, places_of, put_in, take_out,
 };
+use mr_bytes::Bytes;
 use mr_order::{Ordered, Steps};
-use mr_value::{Bytes, CompactBytes};
+use mr_value::{ByName, CompactBytes};
 use std::alloc::{AllocError, Global};
 use std::marker::Model;
 
 /// A finite map from member to score, beside which the same pairs stand in order, each at its place.
 pub(crate) struct Ranked {
     alloc: Global,
-    scores: Scores,
+    scores: ByName<i64>,
     pairs: Ordered<Entry>,
 }
 
@@ -58,7 +58,7 @@ impl Ranked {
     {
         Ranked {
             alloc,
-            scores: Scores::new(alloc),
+            scores: ByName::new(alloc),
             pairs: Ordered::new(alloc),
         }
     }
@@ -76,7 +76,10 @@ impl Ranked {
         ensures value { result ≡ finite.get self.now member.now }
         ensures within { IfSome result (λ score. IsTrue (is_score score)) }
     {
-        self.scores.get(member)
+        match self.scores.get(member) {
+            Some(score) => Some(*score),
+            None => None,
+        }
     }
 
     /// Sets the score of a member, and answers the one before. All memory is taken before the first change: where it
@@ -122,7 +125,7 @@ impl Ranked {
             },
         );
         match taken {
-            Some(entry) => self.scores.set(entry.member, score),
+            Some(entry) => drop(self.scores.replace(entry.member, score)),
             None => unreachable!(),
         }
         Ok(())
@@ -144,7 +147,7 @@ impl Ranked {
                 member: member_copy,
             },
         )?;
-        if self.scores.insert(name, score).is_err() {
+        if self.scores.put(name, score).is_err() {
             take_out(&mut self.pairs, Pair { score, member });
             return Err(AllocError);
         }
@@ -200,7 +203,7 @@ impl Ranked {
     pub(crate) fn iter(&self) -> MemberScores<'_>
         ensures { result ≡ finite.entries self.now }
     {
-        self.scores.iter()
+        MemberScores::new(Some(self.scores.iter()))
     }
 
     /// Removes the first pair in order, and answers it. Where memory runs out, the set is as it was.
@@ -229,10 +232,10 @@ impl Ranked {
 }
 
 /// Takes the member of a pair out of a map, if there is a pair.
-fn forget(scores: &mut Scores, popped: &Option<(Bytes, i64)>)
+fn forget(scores: &mut ByName<i64>, popped: &Option<(Bytes, i64)>)
     ensures { scores.new ≡ without popped.now scores.old }
 {
     if let Some((member, _)) = popped {
-        scores.remove(member.as_slice());
+        let _ = scores.remove(member.as_slice());
     }
 }

@@ -8,8 +8,8 @@ use crate::bound::Bound;
 use crate::member_scores::MemberScores;
 use crate::pair::Pair;
 use crate::ranked::Ranked;
+use mr_bytes::Bytes;
 use mr_order::Steps;
-use mr_value::Bytes;
 use std::alloc::{AllocError, Global};
 use std::marker::Model;
 

@@ -10,9 +10,9 @@ use crate::bound::Bound;
 use crate::entry::Entry;
 use crate::pair::Pair;
 use crate::query::{End, ShortPair, Start};
+use mr_bytes::Bytes;
 use mr_map::ShortKey;
 use mr_order::{Ordered, Steps};
-use mr_value::Bytes;
 use std::alloc::{AllocError, Global};
 
 /// Puts a pair where it stands in order, unless it is there. Where memory runs out, all is as it was.

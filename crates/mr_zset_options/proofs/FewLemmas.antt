@@ -1,7 +1,7 @@
 -- LIMIT with too few words behind it.
 use Rattle.std.proofs.Common.{arith, ℕ, ◌≡◌, ◌<◌, List, [], ◌∷◌, length, map, refl}
 use Rattle.std.specs.Prelude.{Err}
-use Rattle.mr_words.specs.declared.fault.AskFault.TheVariants.{Syntax}
+use Rattle.mr_arguments.specs.declared.fault.AskFault.TheVariants.{Syntax}
 use Rattle.mr_zset_options.specs.RangeOptions.{limit_then}
 use Rattle.mr_zset_options.specs.declared.range_options.RangeOptions.{RangeOptions}
 

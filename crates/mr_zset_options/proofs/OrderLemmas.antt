@@ -2,11 +2,11 @@
 use Rattle.std.proofs.Common.{ℕ, ◌≡◌, List, [], ◌∷◌, ◌++◌, Option, Some, None, refl, sym, ap}
 use Rattle.std.specs.Prelude.{Result, Ok, Err}
 use Rattle.std.specs.Option.{is_some, ok_or}
-use Rattle.mr_words.specs.Options.{added}
-use Rattle.mr_words.specs.Parts.{with}
-use Rattle.mr_words.proofs.OrderLemmas.{exchanged, OnlySyntax, words_alike, two_alike, twice_refused, unless, only_found}
-use Rattle.mr_words.specs.declared.fault.AskFault.{AskFault}
-use Rattle.mr_words.specs.declared.fault.AskFault.TheVariants.{Syntax}
+use Rattle.mr_arguments.specs.Options.{added}
+use Rattle.mr_arguments.specs.Parts.{with}
+use Rattle.mr_arguments.proofs.OrderLemmas.{exchanged, OnlySyntax, words_alike, two_alike, twice_refused, unless, only_found}
+use Rattle.mr_arguments.specs.declared.fault.AskFault.{AskFault}
+use Rattle.mr_arguments.specs.declared.fault.AskFault.TheVariants.{Syntax}
 use Rattle.mr_zset_options.specs.AddOptions.{add_also, add_option, add_options, add_word, agreeing, changed_also, disagree, no_add_options}
 use Rattle.mr_zset_options.specs.declared.add_options.AddOption.{AddOption}
 use Rattle.mr_zset_options.specs.declared.add_options.AddOption.TheVariants as add

@@ -2,14 +2,14 @@
 use Rattle.std.proofs.Common.{ℕ, ℤ, ◌≡◌, List, [], ◌∷◌, Option, Some, None, refl, ◌∙◌, ap, subst}
 use Rattle.std.specs.Prelude.{IfOk, Result, Ok}
 use Rattle.std.specs.Option.{ok_or}
-use Rattle.mr_value.specs.Number.{number_of}
-use Rattle.mr_words.specs.Parts.{with, integer}
-use Rattle.mr_words.specs.Spelling.{Part, Number, Keyword, AreParts}
-use Rattle.mr_words.proofs.PartLemmas.{with_ok, if_with, number_part, number_part_read}
-use Rattle.mr_words.proofs.FaultPlaces.{found_or, OnlyFault}
-use Rattle.mr_words.specs.declared.fault.AskFault.{AskFault}
-use Rattle.mr_words.specs.declared.fault.AskFault.TheVariants.{Integer, Other}
-use Rattle.mr_words.specs.declared.fault.BadValue.TheVariants as bad
+use Rattle.mr_bytes.specs.Number.{number_of}
+use Rattle.mr_arguments.specs.Parts.{with, integer}
+use Rattle.mr_arguments.specs.Spelling.{Part, Number, Keyword, AreParts}
+use Rattle.mr_arguments.proofs.PartLemmas.{with_ok, if_with, number_part, number_part_read}
+use Rattle.mr_arguments.proofs.FaultPlaces.{found_or, OnlyFault}
+use Rattle.mr_arguments.specs.declared.fault.AskFault.{AskFault}
+use Rattle.mr_arguments.specs.declared.fault.AskFault.TheVariants.{Integer, Other}
+use Rattle.mr_arguments.specs.declared.fault.BadValue.TheVariants as bad
 use Rattle.mr_zset.specs.declared.bound.Bound.{Bound}
 use Rattle.mr_score.specs.Texts.{IsScoreText, score_of}
 use Rattle.mr_zset.specs.Texts.{bound_of}

@@ -3,13 +3,13 @@ use Rattle.std.proofs.Common.{ℕ, ◌≡◌, List, [], ◌∷◌, ◌++◌, tru
 use Rattle.std.specs.Prelude.{IsPermutation, Ok, if◌then◌else◌}
 use Rattle.std.specs.Option.{ok_or}
 use Rattle.std.proofs.lemmas.List.Sorted.{IsPermutation-refl, IsPermutation-middle, IsPermutation-append_left}
-use Rattle.mr_value.proofs.Numbers.{same_bytes}
-use Rattle.mr_words.specs.Names.{lowered}
-use Rattle.mr_words.specs.Parts.{with}
-use Rattle.mr_words.specs.Spelling.{Part, Keyword, IsPart, AreParts, in_a_row}
-use Rattle.mr_words.proofs.OptionLemmas.{Adds, one_first, from_none}
-use Rattle.mr_words.proofs.PartLemmas.{with_ok, found_passes, ok_found}
-use Rattle.mr_words.specs.declared.fault.AskFault.TheVariants.{Syntax}
+use Rattle.mr_bytes.proofs.Numbers.{same_bytes}
+use Rattle.mr_arguments.specs.Names.{lowered}
+use Rattle.mr_arguments.specs.Parts.{with}
+use Rattle.mr_arguments.specs.Spelling.{Part, Keyword, IsPart, AreParts, in_a_row}
+use Rattle.mr_arguments.proofs.OptionLemmas.{Adds, one_first, from_none}
+use Rattle.mr_arguments.proofs.PartLemmas.{with_ok, found_passes, ok_found}
+use Rattle.mr_arguments.specs.declared.fault.AskFault.TheVariants.{Syntax}
 use Rattle.mr_zset_options.specs.RangeOptions.{all_range_options, by_score_also, is_limit, is_range_option, limit_text, limit_then, limited, no_range_options, range_also, range_option, range_options, range_text, range_word, reverse_also, with_scores_also}
 use Rattle.mr_zset_options.specs.Spelled.{order_option, scores_option}
 use Rattle.mr_zset_options.specs.RangeWords.{by_option}

@@ -2,10 +2,10 @@
 use Rattle.std.proofs.Common.{ℕ, ◌≡◌, List, [], ◌∷◌, ◌++◌, Bool, Option, Some, None, refl, sym, ◌∙◌, ap, append_assoc}
 use Rattle.std.specs.Prelude.{Result, Ok, Err, if◌then◌else◌}
 use Rattle.std.specs.Option.{is_some, ok_or}
-use Rattle.mr_words.specs.Parts.{with}
-use Rattle.mr_words.proofs.OrderLemmas.{with_joined, with_same, OnlySyntax, second_refused, words_alike, twice_refused, only_found}
-use Rattle.mr_words.specs.declared.fault.AskFault.{AskFault}
-use Rattle.mr_words.specs.declared.fault.AskFault.TheVariants.{Syntax}
+use Rattle.mr_arguments.specs.Parts.{with}
+use Rattle.mr_arguments.proofs.OrderLemmas.{with_joined, with_same, OnlySyntax, second_refused, words_alike, twice_refused, only_found}
+use Rattle.mr_arguments.specs.declared.fault.AskFault.{AskFault}
+use Rattle.mr_arguments.specs.declared.fault.AskFault.TheVariants.{Syntax}
 use Rattle.mr_zset_options.specs.RangeOptions.{AreOneOption, limit_then, limited, range_also, range_option, range_options, range_word}
 use Rattle.mr_zset_options.specs.declared.range_options.LimitWords.{LimitWords}
 use Rattle.mr_zset_options.specs.declared.range_options.RangeBy.{RangeBy}

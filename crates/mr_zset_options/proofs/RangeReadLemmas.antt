@@ -3,14 +3,14 @@ use Rattle.std.proofs.Common.{ℕ, ◌≡◌, ◌⊎◌, List, [], ◌∷◌, �
 use Rattle.std.specs.Prelude.{IsPermutation, Result, Ok, find}
 use Rattle.std.specs.Option.{is_some, ok_or}
 use Rattle.std.specs.Str.{bytes_eq}
-use Rattle.mr_words.specs.Options.{added}
-use Rattle.mr_words.specs.Parts.{with}
-use Rattle.mr_words.specs.Spelling.{Part, Word, Keyword, IsPart, AreParts, in_a_row}
-use Rattle.mr_words.proofs.OrderLemmas.{twice_refused}
-use Rattle.mr_words.proofs.OrderedLemmas.{any_order}
-use Rattle.mr_words.proofs.ReadLemmas.{keyword_is, one_part, three_parts}
-use Rattle.mr_words.specs.declared.fault.AskFault.{AskFault}
-use Rattle.mr_words.specs.declared.fault.AskFault.TheVariants.{Syntax}
+use Rattle.mr_arguments.specs.Options.{added}
+use Rattle.mr_arguments.specs.Parts.{with}
+use Rattle.mr_arguments.specs.Spelling.{Part, Word, Keyword, IsPart, AreParts, in_a_row}
+use Rattle.mr_arguments.proofs.OrderLemmas.{twice_refused}
+use Rattle.mr_arguments.proofs.OrderedLemmas.{any_order}
+use Rattle.mr_arguments.proofs.ReadLemmas.{keyword_is, one_part, three_parts}
+use Rattle.mr_arguments.specs.declared.fault.AskFault.{AskFault}
+use Rattle.mr_arguments.specs.declared.fault.AskFault.TheVariants.{Syntax}
 use Rattle.mr_zset_options.specs.RangeOptions.{all_range_options, is_range_option, limit_text, limited, no_range_options, range_also, range_options, range_text, range_word}
 use Rattle.mr_zset_options.specs.RangeWords.{by_option, AreRangeOptions}
 use Rattle.mr_zset_options.specs.Spelled.{order_option, scores_option}

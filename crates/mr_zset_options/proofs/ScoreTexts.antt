@@ -6,10 +6,10 @@ use Rattle.std.specs.Option.{is_some}
 use Rattle.std.proofs.lemmas.Bool.{lt-ltb, ltb-true}
 use Rattle.std.proofs.lemmas.Fmt.{decimal_is_IsNumeral}
 use Rattle.std.proofs.lemmas.Str.Parse.{digit_at}
-use Rattle.mr_value.specs.Number.{is_i64}
-use Rattle.mr_value.proofs.Numbers.{same_bytes}
-use Rattle.mr_words.specs.Names.{lowered, lowered_byte}
-use Rattle.mr_words.proofs.PartLemmas.{found_passes}
+use Rattle.mr_bytes.specs.Number.{is_i64}
+use Rattle.mr_bytes.proofs.Numbers.{same_bytes}
+use Rattle.mr_arguments.specs.Names.{lowered, lowered_byte}
+use Rattle.mr_arguments.proofs.PartLemmas.{found_passes}
 use Rattle.mr_score.specs.Texts.{IsScoreText}
 use Rattle.mr_score.proofs.TextLemmas.{score_fits}
 use Rattle.mr_zset_options.specs.AddOptions.{add_option, add_text, all_add_options, is_add_option}

@@ -7,7 +7,7 @@ use Rattle.mr_score.specs.Score.{is_score}
 use Rattle.mr_score.specs.Texts.{score_of}
 use Rattle.mr_score.proofs.TextLemmas.{read_spelled}
 use Rattle.mr_zset_options.specs.Scored.{have_scores, or_0, scored, is_scored}
-use Rattle.mr_words.proofs.FitLemmas.{first, second, both}
+use Rattle.mr_arguments.proofs.FitLemmas.{first, second, both}
 
 -- what is read is a score
 or_0_is : (text : List ℕ) → IsTrue (is_some (score_of text)) → IsTrue (is_score (or_0 (score_of text)))

@@ -1,10 +1,10 @@
 -- What single arguments say.
 use Rattle.std.specs.Prelude.{ℕ, ℤ, List, Option, Some, None, Result, Ok}
 use Rattle.std.specs.Option.{ok_or}
-use Rattle.mr_words.specs.Parts.{with, integer}
-use Rattle.mr_words.specs.declared.fault.AskFault.{AskFault}
-use Rattle.mr_words.specs.declared.fault.AskFault.TheVariants.{Integer, Other}
-use Rattle.mr_words.specs.declared.fault.BadValue.TheVariants as bad
+use Rattle.mr_arguments.specs.Parts.{with, integer}
+use Rattle.mr_arguments.specs.declared.fault.AskFault.{AskFault}
+use Rattle.mr_arguments.specs.declared.fault.AskFault.TheVariants.{Integer, Other}
+use Rattle.mr_arguments.specs.declared.fault.BadValue.TheVariants as bad
 use Rattle.mr_zset.specs.declared.bound.Bound.{Bound}
 use Rattle.mr_score.specs.Texts.{score_of}
 use Rattle.mr_zset.specs.Texts.{bound_of}

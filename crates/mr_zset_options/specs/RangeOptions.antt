@@ -2,10 +2,10 @@
 use Rattle.std.specs.Prelude.{◌≡◌, ℕ, List, [], ◌∷◌, Bool, true, false, if◌then◌else◌, Option, Some, None, Result, Ok, Err, codes, find}
 use Rattle.std.specs.Option.{is_some, ok_or}
 use Rattle.std.specs.Str.{bytes_eq}
-use Rattle.mr_words.specs.Names.{lowered}
-use Rattle.mr_words.specs.Parts.{with}
-use Rattle.mr_words.specs.declared.fault.AskFault.{AskFault}
-use Rattle.mr_words.specs.declared.fault.AskFault.TheVariants.{Syntax}
+use Rattle.mr_arguments.specs.Names.{lowered}
+use Rattle.mr_arguments.specs.Parts.{with}
+use Rattle.mr_arguments.specs.declared.fault.AskFault.{AskFault}
+use Rattle.mr_arguments.specs.declared.fault.AskFault.TheVariants.{Syntax}
 use Rattle.mr_zset_options.specs.declared.choices.Order.{Order}
 use Rattle.mr_zset_options.specs.declared.choices.Order.TheVariants.{Ascending, Descending}
 use Rattle.mr_zset_options.specs.declared.choices.RangeReply.{RangeReply}

@@ -1,6 +1,6 @@
 -- The words that are options of a range: a relation, which knows no order in which they are read.
 use Rattle.std.specs.Prelude.{ℕ, List, [], ◌∷◌, ◌++◌, Option, Some, None}
-use Rattle.mr_words.specs.Spelling.{Part, Word, Keyword, AreWithOptions}
+use Rattle.mr_arguments.specs.Spelling.{Part, Word, Keyword, AreWithOptions}
 use Rattle.mr_zset_options.specs.RangeOptions.{limit_text}
 use Rattle.mr_zset_options.specs.Spelled.{order_option, range_word_option, scores_option}
 use Rattle.mr_zset_options.specs.declared.range_options.LimitWords.{LimitWords}

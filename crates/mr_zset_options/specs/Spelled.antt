@@ -1,6 +1,6 @@
 -- The words that options and bounds are spelled by.
 use Rattle.std.specs.Prelude.{List, [], ◌∷◌, Option, Some, None}
-use Rattle.mr_words.specs.Spelling.{Part, Number, Keyword, ScoreBound}
+use Rattle.mr_arguments.specs.Spelling.{Part, Number, Keyword, ScoreBound}
 use Rattle.mr_zset.specs.declared.bound.Bound.{Bound}
 use Rattle.mr_zset_options.specs.AddOptions.{add_text}
 use Rattle.mr_zset_options.specs.RangeOptions.{range_text, limit_text}

@@ -2,11 +2,11 @@
 ghost use Rattle.std.specs.Prelude.{◌≡◌, ◌≤◌, find, length, map};
 ghost use Rattle.std.specs.Cow.{cow_slice_items};
 ghost use Rattle.std.specs.Str.{bytes_eq};
-ghost use Rattle.mr_words.specs.Names.{lowered};
+ghost use Rattle.mr_arguments.specs.Names.{lowered};
 ghost use Rattle.mr_zset_options.specs.AddOptions.{add_also, add_option, add_options, add_text, agreeing, is_add_option, no_add_options, option_count, option_words, pair_words};
 
 use crate::choices::{Comparison, ScoreCondition, ScoresReply};
-use mr_words::{Arguments, AskFault};
+use mr_arguments::{Arguments, AskFault};
 
 /// An option of `ZADD`.
 #[derive(Clone, Copy)]

@@ -1,14 +1,14 @@
 // What single arguments say.
 ghost use Rattle.std.specs.Prelude.{◌≡◌};
 ghost use Rattle.std.specs.Cow.{cow_slice_items};
-ghost use Rattle.mr_words.specs.Parts.{integer};
+ghost use Rattle.mr_arguments.specs.Parts.{integer};
 ghost use Rattle.mr_zset_options.specs.Parts.{bound, bounds, limit, limit_if_any, score};
 
 use crate::choices::{Limit, Order};
 use crate::range_options::LimitWords;
+use mr_arguments::{AskFault, BadValue};
+use mr_bytes::read_i64;
 use mr_score::read_score;
-use mr_value::read_i64;
-use mr_words::{AskFault, BadValue};
 use mr_zset::{Bound, read_bound};
 use std::borrow::CowSlice;
 

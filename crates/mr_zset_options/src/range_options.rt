@@ -2,11 +2,11 @@
 ghost use Rattle.std.specs.Prelude.{◌≡◌, ◌∷◌, ◌≤◌, Err, IfErr, IfOk, find, length, map};
 ghost use Rattle.std.specs.Cow.{cow_slice_items};
 ghost use Rattle.std.specs.Str.{bytes_eq};
-ghost use Rattle.mr_words.specs.Names.{lowered};
+ghost use Rattle.mr_arguments.specs.Names.{lowered};
 ghost use Rattle.mr_zset_options.specs.RangeOptions.{is_limit, is_range_option, limit_then, limited, no_range_options, range_also, range_option, range_options};
 
 use crate::choices::{Order, RangeReply};
-use mr_words::{Argument, Arguments, AskFault};
+use mr_arguments::{Argument, Arguments, AskFault};
 use std::borrow::CowSlice;
 
 /// An option of a range that is one word.

@@ -4,8 +4,8 @@ ghost use Rattle.std.specs.Iterator.{YieldsFirstBy, item_count};
 ghost use Rattle.std.specs.List.{list_all};
 ghost use Rattle.mr_zset_options.specs.Scored.{has_score, have_scores, is_scored, read_scored, scored_of};
 
+use mr_arguments::{Pairs, PairsIter};
 use mr_score::read_score;
-use mr_words::{Pairs, PairsIter};
 use std::marker::Model;
 
 /// Words that follow one another in a request, taken two by two: scores with their members. Each score can be read.

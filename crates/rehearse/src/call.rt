@@ -1,8 +1,8 @@
 //! The calls that lines name.
 use crate::fault::RehearsalFault;
 use hex::FromHexError;
+use mr_bytes::read_i64;
 use mr_data::Given;
-use mr_value::read_i64;
 use std::alloc::Global;
 
 /// A call.

@@ -2,8 +2,8 @@
 use crate::call::{DatasetCall, Way};
 use crate::fault::RehearsalFault;
 use crate::telling::{tell, tell_bytes, tell_refusal};
+use mr_commands::{Answer, plan_words};
 use mr_data::{ApplyFault, Dataset, Effect, Given, decode, encode};
-use mr_plan::{Answer, plan_words};
 use mr_resp::{Scan, next_command, next_request, write_reply};
 use std::alloc::Global;
 

@@ -1,5 +1,5 @@
 //! What a node is given from outside, as it is listed.
-ghost use Rattle.std.specs.Prelude.{◌≢◌};
+ghost use Rattle.std.specs.Prelude.{◌≢◌, None};
 ghost use Rattle.mr_repl.specs.ReplId.{zero_id};
 ghost use Rattle.mr_data.specs.Given.{IsMoment};
 
@@ -89,6 +89,8 @@ fn without_zeros(id: ReplId) -> ReplId
 
 impl Source for ListedSource {
     ghost clock = { λ s. s.last };
+
+    ghost drawn = { λ _. None };
 
     fn now(&mut self) -> i64 {
         if let Some(millis) = self.moments.pop_front() {

@@ -2,7 +2,7 @@
 use crate::fault::RehearsalFault;
 use crate::heard::HeardLink;
 use crate::heard_wire::HeardWire;
-use mr_loop::Turn;
+use mr_loop::{Followed, Turn};
 use std::alloc::Global;
 use std::fmt::Display;
 
@@ -45,7 +45,23 @@ pub fn tell_turn(alloc: Global, told: Turn, out: &mut Vec<u8>) -> Result<(), Reh
     tell_shown(alloc, told.steps, out)?;
     tell_shown(alloc, told.done, out)?;
     tell_shown(alloc, told.used, out)?;
-    tell_shown(alloc, told.deaf, out)
+    tell_shown(alloc, told.deaf, out)?;
+    tell_followed(alloc, told.followed, out)
+}
+
+/// What it counted of following a master.
+fn tell_followed(
+    alloc: Global,
+    followed: Followed,
+    out: &mut Vec<u8>,
+) -> Result<(), RehearsalFault> {
+    tell_shown(alloc, followed.greeted, out)?;
+    tell_shown(alloc, followed.announced, out)?;
+    tell_shown(alloc, followed.copied, out)?;
+    tell_shown(alloc, followed.bytes, out)?;
+    tell_shown(alloc, followed.continued, out)?;
+    tell_shown(alloc, followed.refused, out)?;
+    tell_shown(alloc, followed.spoiled, out)
 }
 
 /// A link, behind a `;`: who opened it, whether it is open, how many bytes were read, what was written, and whom it was dialled to.

@@ -3,10 +3,10 @@ use crate::fault::RehearsalFault;
 use crate::kind::Kind;
 use crate::step::{Step, bytes_of, number_of};
 use crate::telling::{tell, tell_shown};
+use mr_arguments::Name;
 use mr_ask::{Group, read};
 use mr_cmd_string::Amount;
 use mr_resp::{Scan, next_request};
-use mr_words::Name;
 use std::alloc::Global;
 
 /// Commands have no state.

@@ -3,7 +3,7 @@ use crate::fault::RehearsalFault;
 use crate::kind::Kind;
 use crate::step::{Step, bytes_of, count_of};
 use crate::telling::{tell, tell_bytes, tell_shown, tell_whether};
-use mr_repl::Backlog;
+use mr_repl::{Backlog, MOST_BACKLOG};
 use std::alloc::Global;
 
 /// The greatest offset that a step may name.
@@ -30,7 +30,7 @@ impl Stream {
     ) -> Result<(), RehearsalFault> {
         let capacity = count_of(step.first)? as usize;
         let offset = count_of(step.second)?;
-        if capacity < 1 || capacity > 1_073_741_824 || offset > MOST {
+        if capacity < 1 || capacity > MOST_BACKLOG || offset > MOST {
             return Err(RehearsalFault::Line);
         }
         self.backlog = Some(Backlog::new(alloc, capacity, offset)?);
@@ -81,7 +81,7 @@ fn push(
     let bytes = bytes_of(alloc, step.first)?;
     let piece = bytes.as_slice();
     let end = backlog.end();
-    if end > MOST || piece.len() > 1_073_741_824 {
+    if end > MOST || piece.len() > MOST_BACKLOG {
         return Err(RehearsalFault::Line);
     }
     backlog.push(piece);

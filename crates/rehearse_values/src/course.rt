@@ -7,7 +7,7 @@ use crate::step::{Step, bytes_of, count_of, id_of, link_of};
 use crate::telling::{tell, tell_bytes, tell_shown, tell_whether};
 use mr_course::{Course, UpstreamStep};
 use mr_data::Dataset;
-use mr_repl::Lineage;
+use mr_repl::{Lineage, MOST_BACKLOG};
 use std::alloc::Global;
 use std::hash::RandomState;
 
@@ -41,7 +41,7 @@ impl Node {
         let id = id_of(step.first)?;
         let capacity = count_of(step.second)? as usize;
         let offset = count_of(step.third)?;
-        if capacity < 1 || capacity > 1_073_741_824 || offset > MOST {
+        if capacity < 1 || capacity > MOST_BACKLOG || offset > MOST {
             return Err(RehearsalFault::Line);
         }
         let lineage = Lineage::new(alloc, id, capacity, offset)?;
@@ -132,7 +132,7 @@ fn grow(
     let bytes = bytes_of(alloc, step.first)?;
     let piece = bytes.as_slice();
     let end = course.lineage().stream().end();
-    if !course.master() || end > MOST || piece.len() > 1_073_741_824 {
+    if !course.master() || end > MOST || piece.len() > MOST_BACKLOG {
         return Err(RehearsalFault::Line);
     }
     course.grow(piece);

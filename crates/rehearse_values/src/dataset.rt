@@ -3,8 +3,8 @@ use crate::fault::RehearsalFault;
 use crate::kind::Kind;
 use crate::step::{Step, bytes_of, count_of, number_of};
 use crate::telling::{tell, tell_bytes, tell_shown, tell_whether};
-use mr_data::{ApplyFault, Dataset, Effect, End, Given, Pairs, Scores, Words};
-use mr_value::Word;
+use mr_bytes::Word;
+use mr_data::{ApplyFault, Dataset, Effect, EffectPairs, EffectWords, End, Given, Scores};
 use std::alloc::Global;
 
 impl Kind for Dataset {
@@ -83,7 +83,7 @@ fn set_no_texts(
     held: &mut Dataset,
     out: &mut Vec<u8>,
 ) -> Result<(), RehearsalFault> {
-    let pairs = Pairs::new(alloc);
+    let pairs = EffectPairs::new(alloc);
     apply(held, Effect::MSet { pairs }, out)
 }
 
@@ -95,7 +95,7 @@ fn add_no_members(
 ) -> Result<(), RehearsalFault> {
     let effect = Effect::AddMembers {
         key: Word::borrowed(b"s"),
-        members: Words::new(alloc),
+        members: EffectWords::new(alloc),
     };
     apply(held, effect, out)
 }
@@ -109,7 +109,7 @@ fn push_no_items(
     let effect = Effect::Push {
         key: Word::borrowed(b"l"),
         end: End::Left,
-        items: Words::new(alloc),
+        items: EffectWords::new(alloc),
     };
     apply(held, effect, out)
 }

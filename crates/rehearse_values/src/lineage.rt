@@ -6,7 +6,7 @@ use crate::roles::tell_role;
 use crate::standing::tell_answer;
 use crate::step::{Step, bytes_of, count_of, id_of, number_of};
 use crate::telling::{tell, tell_shown};
-use mr_repl::{Lineage, decide};
+use mr_repl::{Lineage, MOST_BACKLOG, decide};
 use std::alloc::Global;
 
 /// The greatest offset that a step may name.
@@ -35,7 +35,7 @@ impl NamedStream {
         let id = id_of(step.first)?;
         let capacity = count_of(step.second)? as usize;
         let offset = count_of(step.third)?;
-        if capacity < 1 || capacity > 1_073_741_824 || offset > MOST {
+        if capacity < 1 || capacity > MOST_BACKLOG || offset > MOST {
             return Err(RehearsalFault::Line);
         }
         self.lineage = Some(Lineage::new(alloc, id, capacity, offset)?);
@@ -98,7 +98,7 @@ fn grow(
     let bytes = bytes_of(alloc, step.first)?;
     let piece = bytes.as_slice();
     let end = lineage.stream().end();
-    if end > MOST || piece.len() > 1_073_741_824 {
+    if end > MOST || piece.len() > MOST_BACKLOG {
         return Err(RehearsalFault::Line);
     }
     lineage.grow(piece);

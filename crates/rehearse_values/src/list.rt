@@ -3,7 +3,8 @@ use crate::fault::RehearsalFault;
 use crate::kind::Kind;
 use crate::step::{Step, bytes_of};
 use crate::telling::{tell, tell_bytes, tell_whether};
-use mr_value::{Bytes, ListValue};
+use mr_bytes::Bytes;
+use mr_value::{CompactBytes, ListValue};
 use std::alloc::Global;
 
 impl Kind for ListValue {
@@ -30,7 +31,7 @@ fn push(
     step: Step<'_>,
     out: &mut Vec<u8>,
 ) -> Result<(), RehearsalFault> {
-    list.push_back(Bytes::from_vec(bytes_of(alloc, step.first)?))?;
+    list.push_back(item_of(alloc, step.first)?)?;
     tell(out, "pushed")
 }
 
@@ -42,7 +43,7 @@ fn insert_before(
     out: &mut Vec<u8>,
 ) -> Result<(), RehearsalFault> {
     let pivot = bytes_of(alloc, step.first)?;
-    let item = Bytes::from_vec(bytes_of(alloc, step.second)?);
+    let item = item_of(alloc, step.second)?;
     let inserted = list.insert_before(pivot.as_slice(), item)?;
     tell_whether(out, inserted, "inserted", "no pivot")
 }
@@ -55,9 +56,15 @@ fn insert_after(
     out: &mut Vec<u8>,
 ) -> Result<(), RehearsalFault> {
     let pivot = bytes_of(alloc, step.first)?;
-    let item = Bytes::from_vec(bytes_of(alloc, step.second)?);
+    let item = item_of(alloc, step.second)?;
     let inserted = list.insert_after(pivot.as_slice(), item)?;
     tell_whether(out, inserted, "inserted", "no pivot")
+}
+
+/// The bytes that a word of a step spells, as an item.
+fn item_of(alloc: Global, word: &str) -> Result<CompactBytes, RehearsalFault> {
+    let bytes = Bytes::from_vec(bytes_of(alloc, word)?);
+    Ok(CompactBytes::from_bytes(bytes))
 }
 
 /// The items, in order.

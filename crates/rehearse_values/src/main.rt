@@ -2,7 +2,7 @@
 //! that no client's request makes, and sees what no reply tells.
 //!
 //! A line is a kind of value and steps behind a space, with a `;` between two of them: `list push 61;items`. They are played on a fresh value
-//! of that kind. Bytes are written in hexadecimal digits, or as `-` where there are none. `was` tells
+//! of that kind. Bytes are written in hexadecimal digits, as `-` where there are none, or as `61*5` for five of one. `was` tells
 //! what stood there, and `none` that nothing did.
 //!
 //! | Kind | Steps, and what they answer |

@@ -3,8 +3,8 @@ use crate::fault::RehearsalFault;
 use crate::kind::Kind;
 use crate::step::{Step, bytes_of, number_of};
 use crate::telling::{tell, tell_bytes, tell_shown, tell_whether};
-use mr_effect::{EffectName, Pairs, Scores, Words};
-use mr_value::Word;
+use mr_bytes::Word;
+use mr_effect::{EffectName, EffectPairs, EffectWords, Scores};
 use std::alloc::Global;
 
 /// The parts have no state.
@@ -31,7 +31,7 @@ impl Kind for Parts {
 /// A list of one word.
 fn tell_words(alloc: Global, step: Step<'_>, out: &mut Vec<u8>) -> Result<(), RehearsalFault> {
     let item = bytes_of(alloc, step.first)?;
-    let mut words = Words::new(alloc);
+    let mut words = EffectWords::new(alloc);
     words.push(Word::borrowed(item.as_slice()))?;
     tell_list(alloc, words.len(), words.is_empty(), words.fit(), out)?;
     tell_shown(alloc, words.into_vec().len(), out)
@@ -41,7 +41,7 @@ fn tell_words(alloc: Global, step: Step<'_>, out: &mut Vec<u8>) -> Result<(), Re
 fn tell_pairs(alloc: Global, step: Step<'_>, out: &mut Vec<u8>) -> Result<(), RehearsalFault> {
     let name = bytes_of(alloc, step.first)?;
     let value = bytes_of(alloc, step.second)?;
-    let mut pairs = Pairs::new(alloc);
+    let mut pairs = EffectPairs::new(alloc);
     pairs.push(
         Word::borrowed(name.as_slice()),
         Word::borrowed(value.as_slice()),

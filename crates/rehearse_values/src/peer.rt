@@ -1,14 +1,14 @@
 //! What one node says to another before the stream.
 ghost use Rattle.std.specs.Prelude.{◌≤◌, IfOk};
-ghost use Rattle.mr_lines.specs.Lines.{most_counted};
+ghost use Rattle.mr_peer_lines.specs.Lines.{most_counted};
 
 use crate::fault::RehearsalFault;
 use crate::kind::Kind;
 use crate::step::{Step, bytes_of, count_of, id_of};
 use crate::telling::{tell, tell_bytes, tell_shown};
-use mr_lines::{
-    LineScan, PeerLine, PsyncReply, next_line, read_offset, read_reply, write_continue, write_full,
-    write_length,
+use mr_peer_lines::{
+    PeerLine, PeerLineScan, PsyncReply, next_line, read_offset, read_reply, write_continue,
+    write_full, write_length,
 };
 use mr_repl::ReplId;
 use std::alloc::Global;
@@ -40,13 +40,13 @@ impl Kind for PeerLines {
 fn tell_line(alloc: Global, step: Step<'_>, out: &mut Vec<u8>) -> Result<(), RehearsalFault> {
     let input = bytes_of(alloc, step.first)?;
     match next_line(input.as_slice()) {
-        LineScan::Whole { line, used } => {
+        PeerLineScan::Whole { line, used } => {
             tell(out, "line")?;
             tell_shown(alloc, used, out)?;
             tell_said(alloc, line, out)
         }
-        LineScan::More => tell(out, "more"),
-        LineScan::Bad => tell(out, "bad"),
+        PeerLineScan::More => tell(out, "more"),
+        PeerLineScan::Bad => tell(out, "bad"),
     }
 }
 

@@ -3,8 +3,8 @@ use crate::fault::RehearsalFault;
 use crate::kind::Kind;
 use crate::step::{Step, bytes_of, number_of};
 use crate::telling::{tell, tell_before, tell_bytes, tell_shown};
+use mr_bytes::Bytes;
 use mr_score::is_score;
-use mr_value::Bytes;
 use mr_zset::ZSet;
 use std::alloc::Global;
 

@@ -3,7 +3,7 @@ use crate::fault::RehearsalFault;
 use crate::kind::{Kind, play};
 use crate::step::{Step, count_of, id_of, number_of};
 use crate::telling::{tell, tell_shown};
-use mr_repl::{Answer, ReplId, Standing, decide};
+use mr_repl::{PsyncAnswer, ReplId, Standing, decide};
 use std::alloc::Global;
 
 /// Where a node stands: at first under the id of zeros, before any byte.
@@ -59,10 +59,14 @@ fn ask(
 }
 
 /// How a replica is answered that asks to go on.
-pub fn tell_answer(alloc: Global, answer: Answer, out: &mut Vec<u8>) -> Result<(), RehearsalFault> {
+pub fn tell_answer(
+    alloc: Global,
+    answer: PsyncAnswer,
+    out: &mut Vec<u8>,
+) -> Result<(), RehearsalFault> {
     match answer {
-        Answer::Full => tell(out, "full"),
-        Answer::Continue(from) => {
+        PsyncAnswer::Full => tell(out, "full"),
+        PsyncAnswer::Continue(from) => {
             tell(out, "continue")?;
             tell_shown(alloc, from, out)
         }

@@ -31,12 +31,30 @@ impl<'a> Step<'a> {
     }
 }
 
-/// The bytes that hexadecimal digits spell.
+/// The bytes that hexadecimal digits spell, or as many of one as stand behind a `*`.
 pub fn bytes_of(alloc: Global, word: &str) -> Result<Vec<u8>, RehearsalFault> {
     if word == "-" {
         return Ok(Vec::new(alloc));
     }
-    match hex::decode(alloc, word) {
+    match word.split_once('*') {
+        Some((byte, count)) => run_of(alloc, byte, count),
+        None => decoded(alloc, word),
+    }
+}
+
+/// As many of a byte as a number says.
+fn run_of(alloc: Global, byte: &str, count: &str) -> Result<Vec<u8>, RehearsalFault> {
+    let count = count_of(count)? as usize;
+    let bytes = decoded(alloc, byte)?;
+    match bytes.first() {
+        Some(byte) => Ok(Vec::from_elem(alloc, *byte, count)?),
+        None => Err(RehearsalFault::Line),
+    }
+}
+
+/// The bytes of hexadecimal digits alone.
+fn decoded(alloc: Global, digits: &str) -> Result<Vec<u8>, RehearsalFault> {
+    match hex::decode(alloc, digits) {
         Ok(bytes) => Ok(bytes),
         Err(FromHexError::OutOfMemory) => Err(RehearsalFault::Memory),
         Err(_) => Err(RehearsalFault::Line),

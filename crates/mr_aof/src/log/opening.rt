@@ -8,13 +8,10 @@ ghost use Rattle.mr_aof.specs.ReadThrough.{CameTo, IsEarlier, IsKnownEnd, IsMade
 
 use crate::fault::LogFault;
 use crate::log::Log;
-use mr_file::{Failed, LogFile, SyncMode};
+use mr_file::{Failed, LogFile, PIECE, SyncMode};
 use mr_groups::{GroupReplay, Loaded, Rest};
 use std::alloc::Global;
 use std::hash::RandomState;
-
-/// How many bytes are read at a time.
-const PIECE: usize = 65_536;
 
 /// How many bytes of a file were read, and what the last of them are.
 #[derive(Clone, Copy)]
@@ -40,9 +37,9 @@ pub(crate) enum Pass {
 }
 
 impl<F: LogFile> Log<F> {
-    /// Reads a file, and makes a log of it. The longest beginning of its bytes that is a list of texts of groups, each of which can
-    /// be done as a whole in its turn, is what is loaded, and all that the file is left with: what stands behind it is set aside,
-    /// byte for byte, before it is cut off. The file is gone through piece by piece, and where a group could be done in part alone,
+    /// Reads a file, and makes a log of it. The longest beginning of its bytes that is a list of notes and texts of groups, of which
+    /// each group can be done as a whole in its turn, is what is loaded, and all that the file is left with: what stands behind it
+    /// is set aside, byte for byte, before it is cut off. The file is gone through piece by piece, and where a group could be done in part alone,
     /// once more up to that: what is held of it is a piece and a group's text. After a fault its bytes are as before.
     pub fn open(
         alloc: Global,

@@ -2,12 +2,12 @@
 ghost use Rattle.std.specs.Prelude.{◌≡◌, ◌≤◌, [], ◌∷◌, ◌++◌, length, map, if◌then◌else◌, OnOk};
 ghost use Rattle.mr_effect.specs.declared.effect.Effect.TheVariants as made;
 ghost use Rattle.mr_entries.specs.Cuts.{cut, most_items};
-ghost use Rattle.mr_planning.specs.Groups.{TakesItems};
+ghost use Rattle.mr_room.specs.Groups.{TakesItems};
 
 use crate::groups::MOST_ITEMS;
-use mr_data::{Effect, Words};
-use mr_planning::Effects;
-use mr_value::Word;
+use mr_bytes::Word;
+use mr_data::{Effect, EffectWords};
+use mr_room::Effects;
 use std::alloc::{AllocError, Global};
 use std::mem::replace;
 
@@ -16,7 +16,7 @@ use std::mem::replace;
 pub struct FieldGroup<'k> {
     alloc: Global,
     key: &'k [u8],
-    fields: Words<'static>,
+    fields: EffectWords<'static>,
     ghost room: { length fields ≤ most_items },
 }
 
@@ -29,7 +29,7 @@ impl<'k> FieldGroup<'k> {
         FieldGroup {
             alloc,
             key,
-            fields: Words::new(alloc),
+            fields: EffectWords::new(alloc),
         }
     }
 
@@ -69,7 +69,7 @@ impl<'k> FieldGroup<'k> {
         ensures fields { OnOk result (self.new.fields ≡ []) }
     {
         let key = Word::copied(self.alloc, self.key)?;
-        let fields = replace(&mut self.fields, Words::new(self.alloc));
+        let fields = replace(&mut self.fields, EffectWords::new(self.alloc));
         effects.push(Effect::RemoveFields { key, fields })?;
         Ok(())
     }

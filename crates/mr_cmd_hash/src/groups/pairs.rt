@@ -3,12 +3,12 @@ ghost use Rattle.std.specs.Prelude.{◌≡◌, ◌≤◌, [], ◌∷◌, ◌++�
 ghost use Rattle.mr_effect.specs.declared.effect.Effect.TheVariants as made;
 ghost use Rattle.mr_entries.specs.Cuts.{cut, most_items};
 ghost use Rattle.mr_cmd_hash.specs.Hashes.{is_value};
-ghost use Rattle.mr_planning.specs.Groups.{TakesItems};
+ghost use Rattle.mr_room.specs.Groups.{TakesItems};
 
 use crate::groups::MOST_ITEMS;
-use mr_data::{Effect, Pairs};
-use mr_planning::Effects;
-use mr_value::Word;
+use mr_bytes::Word;
+use mr_data::{Effect, EffectPairs};
+use mr_room::Effects;
 use std::alloc::{AllocError, Global};
 use std::mem::replace;
 
@@ -17,7 +17,7 @@ use std::mem::replace;
 pub struct PairGroup<'k> {
     alloc: Global,
     key: &'k [u8],
-    pairs: Pairs<'static>,
+    pairs: EffectPairs<'static>,
     ghost room: { length pairs ≤ most_items },
 }
 
@@ -30,7 +30,7 @@ impl<'k> PairGroup<'k> {
         PairGroup {
             alloc,
             key,
-            pairs: Pairs::new(alloc),
+            pairs: EffectPairs::new(alloc),
         }
     }
 
@@ -77,7 +77,7 @@ impl<'k> PairGroup<'k> {
         ensures pairs { OnOk result (self.new.pairs ≡ []) }
     {
         let key = Word::copied(self.alloc, self.key)?;
-        let pairs = replace(&mut self.pairs, Pairs::new(self.alloc));
+        let pairs = replace(&mut self.pairs, EffectPairs::new(self.alloc));
         effects.push(Effect::SetFields { key, pairs })?;
         Ok(())
     }

@@ -2,12 +2,12 @@
 ghost use Rattle.std.specs.Prelude.{◌≡◌, ◌≤◌, [], ◌∷◌, ◌++◌, length, map, OnOk};
 ghost use Rattle.mr_effect.specs.declared.effect.Effect.TheVariants as made;
 ghost use Rattle.mr_entries.specs.Cuts.{cut, most_items};
-ghost use Rattle.mr_planning.specs.Groups.{TakesItems};
+ghost use Rattle.mr_room.specs.Groups.{TakesItems};
 
 use crate::groups::MOST_ITEMS;
-use mr_data::{Effect, Words};
-use mr_planning::Effects;
-use mr_value::Word;
+use mr_bytes::Word;
+use mr_data::{Effect, EffectWords};
+use mr_room::Effects;
 use std::alloc::{AllocError, Global};
 use std::mem::replace;
 
@@ -16,7 +16,7 @@ use std::mem::replace;
 pub struct MemberGroup<'k> {
     alloc: Global,
     key: &'k [u8],
-    members: Words<'static>,
+    members: EffectWords<'static>,
     ghost room: { length members ≤ most_items },
 }
 
@@ -29,7 +29,7 @@ impl<'k> MemberGroup<'k> {
         MemberGroup {
             alloc,
             key,
-            members: Words::new(alloc),
+            members: EffectWords::new(alloc),
         }
     }
 
@@ -52,7 +52,7 @@ impl<'k> MemberGroup<'k> {
         ensures members { OnOk result (self.new.members ≡ []) }
     {
         let key = Word::copied(self.alloc, self.key)?;
-        let members = replace(&mut self.members, Words::new(self.alloc));
+        let members = replace(&mut self.members, EffectWords::new(self.alloc));
         effects.push(Effect::RemoveScores { key, members })?;
         Ok(())
     }

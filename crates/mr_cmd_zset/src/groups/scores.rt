@@ -2,14 +2,14 @@
 ghost use Rattle.std.specs.Prelude.{◌≡◌, ◌≤◌, [], ◌∷◌, ◌++◌, length, map, OnOk};
 ghost use Rattle.mr_effect.specs.declared.effect.Effect.TheVariants as made;
 ghost use Rattle.mr_entries.specs.Cuts.{cut, most_items};
-ghost use Rattle.mr_planning.specs.Groups.{TakesItems};
+ghost use Rattle.mr_room.specs.Groups.{TakesItems};
 ghost use Rattle.mr_cmd_zset.specs.Scores.{changed_alone};
 
 use crate::groups::MOST_ITEMS;
 use crate::rules::is_same;
+use mr_bytes::Word;
 use mr_data::{Effect, Scores};
-use mr_planning::Effects;
-use mr_value::Word;
+use mr_room::Effects;
 use std::alloc::{AllocError, Global};
 use std::mem::replace;
 

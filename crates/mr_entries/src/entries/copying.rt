@@ -9,8 +9,8 @@ ghost use Rattle.mr_entries.specs.Outcome.{Applies};
 use crate::entries::Entries;
 use crate::fault::ApplyFault;
 use crate::value::Value;
-use mr_effect::{Pairs, Words};
-use mr_value::{End, Word};
+use mr_bytes::{End, Word};
+use mr_effect::{EffectPairs, EffectWords};
 use std::alloc::{AllocError, Global};
 
 impl Entries {
@@ -18,7 +18,7 @@ impl Entries {
     pub(super) fn copy_fields(
         &mut self,
         key: &Word<'_>,
-        pairs: &Pairs<'_>,
+        pairs: &EffectPairs<'_>,
     ) -> Result<(), ApplyFault>
         requires { IsTrue (is_some_of pairs.now) }
         ensures { Applies (at_key (set_fields_step pairs.now) key.now self.old) self.old result self.new }
@@ -35,7 +35,7 @@ impl Entries {
         &mut self,
         key: &Word<'_>,
         end: End,
-        items: &Words<'_>,
+        items: &EffectWords<'_>,
     ) -> Result<(), ApplyFault>
         requires { IsTrue (is_some_of items.now) }
         ensures { Applies (at_key (push_step end items.now) key.now self.old) self.old result self.new }
@@ -51,7 +51,7 @@ impl Entries {
     pub(super) fn copy_members(
         &mut self,
         key: &Word<'_>,
-        members: &Words<'_>,
+        members: &EffectWords<'_>,
     ) -> Result<(), ApplyFault>
         requires { IsTrue (is_some_of members.now) }
         ensures { Applies (at_key (add_members_step members.now) key.now self.old) self.old result self.new }
@@ -132,10 +132,10 @@ pub(super) fn same<'a>(word: &'a Word<'_>) -> Word<'a>
 }
 
 /// The words, borrowed.
-fn same_words<'a>(alloc: Global, words: &'a [Word<'_>]) -> Result<Words<'a>, AllocError>
+fn same_words<'a>(alloc: Global, words: &'a [Word<'_>]) -> Result<EffectWords<'a>, AllocError>
     ensures { IfOk result (λ ws. ws ≡ words.now) }
 {
-    let mut same_words = Words::new(alloc);
+    let mut same_words = EffectWords::new(alloc);
     for word in words {
         same_words.push(same(word))?;
     }
@@ -143,10 +143,13 @@ fn same_words<'a>(alloc: Global, words: &'a [Word<'_>]) -> Result<Words<'a>, All
 }
 
 /// The keys or fields with their values, borrowed.
-fn same_pairs<'a>(alloc: Global, pairs: &'a [(Word<'_>, Word<'_>)]) -> Result<Pairs<'a>, AllocError>
+fn same_pairs<'a>(
+    alloc: Global,
+    pairs: &'a [(Word<'_>, Word<'_>)],
+) -> Result<EffectPairs<'a>, AllocError>
     ensures { IfOk result (λ ps. ps ≡ pairs.now) }
 {
-    let mut same_pairs = Pairs::new(alloc);
+    let mut same_pairs = EffectPairs::new(alloc);
     for pair in pairs {
         same_pairs.push(same(&pair.0), same(&pair.1))?;
     }

@@ -6,7 +6,7 @@ ghost use Rattle.mr_entries.specs.Outcome.{Applies};
 use crate::entries::Entries;
 use crate::fault::ApplyFault;
 use crate::value::{Entry, Value};
-use mr_value::Word;
+use mr_bytes::Word;
 
 impl Entries {
     /// Sets a key to a text, until a moment. A key that is there is written over in its place.

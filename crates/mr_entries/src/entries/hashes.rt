@@ -9,13 +9,18 @@ ghost use Rattle.mr_entries.specs.Outcome.{Applies};
 use crate::entries::Entries;
 use crate::fault::ApplyFault;
 use crate::value::Value;
-use mr_effect::Pairs;
-use mr_value::{Hash, Word};
+use mr_bytes::Word;
+use mr_effect::EffectPairs;
+use mr_value::{CompactBytes, Hash};
 use std::alloc::{AllocError, Global};
 
 impl Entries {
     /// Sets fields of the hash at a key.
-    pub(super) fn set_fields(&mut self, key: Word<'_>, pairs: Pairs<'_>) -> Result<(), ApplyFault>
+    pub(super) fn set_fields(
+        &mut self,
+        key: Word<'_>,
+        pairs: EffectPairs<'_>,
+    ) -> Result<(), ApplyFault>
         requires { IsTrue (is_some_of pairs) }
         ensures { Applies (at_key (set_fields_step pairs.entry) key.entry self.old) self.old result self.new }
     {
@@ -57,12 +62,12 @@ impl Entries {
 }
 
 /// Sets fields of a hash, one after another.
-fn put_fields(alloc: Global, hash: &mut Hash, pairs: Pairs<'_>) -> Result<(), AllocError>
+fn put_fields(alloc: Global, hash: &mut Hash, pairs: EffectPairs<'_>) -> Result<(), AllocError>
     ensures { OnOk result (hash.new ≡ with_fields pairs.entry hash.old) }
 {
     for (field, value) in pairs.into_vec() {
-        let field = field.into_bytes(alloc)?;
-        let value = value.into_bytes(alloc)?;
+        let field = CompactBytes::from_word(alloc, field)?;
+        let value = CompactBytes::from_word(alloc, value)?;
         hash.put(field, value)?;
     }
     Ok(())

@@ -10,8 +10,9 @@ ghost use Rattle.mr_entries.specs.Outcome.{Applies};
 use crate::entries::Entries;
 use crate::fault::ApplyFault;
 use crate::value::Value;
-use mr_effect::Words;
-use mr_value::{Bytes, End, ListValue, Side, Word};
+use mr_bytes::{End, Side, Word};
+use mr_effect::EffectWords;
+use mr_value::{CompactBytes, ListValue};
 use std::alloc::{AllocError, Global};
 
 impl Entries {
@@ -20,7 +21,7 @@ impl Entries {
         &mut self,
         key: Word<'_>,
         end: End,
-        items: Words<'_>,
+        items: EffectWords<'_>,
     ) -> Result<(), ApplyFault>
         requires { IsTrue (is_some_of items) }
         ensures { Applies (at_key (push_step end items.entry) key.entry self.old) self.old result self.new }
@@ -79,7 +80,7 @@ impl Entries {
         let Some(place) = place_of(place, list.len()) else {
             return Err(ApplyFault::Refused);
         };
-        let item = item.into_bytes(alloc)?;
+        let item = CompactBytes::from_word(alloc, item)?;
         let _ = list.set(place, item);
         Ok(())
     }
@@ -104,7 +105,7 @@ impl Entries {
         let Some(place) = place_beside(list, side, pivot) else {
             return Err(ApplyFault::Refused);
         };
-        let item = item.into_bytes(alloc)?;
+        let item = CompactBytes::from_word(alloc, item)?;
         list.insert(place, item)?;
         Ok(())
     }
@@ -169,7 +170,7 @@ impl Entries {
     }
 
     /// Takes the item at an end of the list at a key, and the key with the last of them.
-    pub(super) fn take_item(&mut self, key: &[u8], end: End) -> Option<Bytes>
+    pub(super) fn take_item(&mut self, key: &[u8], end: End) -> Option<CompactBytes>
         ensures absent { result ≡ None → (item_at end (map.get self.old key.now) ≡ None) × (self.new ≡ self.old) }
         ensures item { IfSome result (λ item. item_at end (map.get self.old key.now) ≡ Some item) }
         ensures taken { IfSome result (λ item. at_key (pop_step end (pos 1)) key.now self.old ≡ Some self.new) }
@@ -195,7 +196,7 @@ impl Entries {
         &mut self,
         key: Word<'_>,
         end: End,
-        item: Bytes,
+        item: CompactBytes,
     ) -> Result<(), ApplyFault>
         ensures { Applies (at_key (push_step end (item ∷ [])) key.entry self.old) self.old result self.new }
     {
@@ -218,18 +219,18 @@ fn push_items(
     alloc: Global,
     list: &mut ListValue,
     end: End,
-    items: Words<'_>,
+    items: EffectWords<'_>,
 ) -> Result<(), AllocError>
     ensures { OnOk result (list.new ≡ pushed end items.entry list.old) }
 {
     for item in items.into_vec() {
-        push_item(list, end, item.into_bytes(alloc)?)?;
+        push_item(list, end, CompactBytes::from_word(alloc, item)?)?;
     }
     Ok(())
 }
 
 /// Puts an item at an end of a list.
-fn push_item(list: &mut ListValue, end: End, item: Bytes) -> Result<(), AllocError>
+fn push_item(list: &mut ListValue, end: End, item: CompactBytes) -> Result<(), AllocError>
     ensures { OnOk result (list.new ≡ put_item end item list.old) }
 {
     match end {
@@ -239,7 +240,7 @@ fn push_item(list: &mut ListValue, end: End, item: Bytes) -> Result<(), AllocErr
 }
 
 /// Takes the item at an end of a list. An empty one stays as it is.
-fn pop_item(list: &mut ListValue, end: End) -> Option<Bytes>
+fn pop_item(list: &mut ListValue, end: End) -> Option<CompactBytes>
     ensures { MatchOption result ((end_item end list.old ≡ None) × (list.new ≡ list.old)) (λ item. (end_item end list.old ≡ Some item) × (list.new ≡ popped end 1 list.old) × (may_take (pos 1) (length list.old) ≡ true)) }
 {
     match end {

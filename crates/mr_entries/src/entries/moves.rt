@@ -8,8 +8,8 @@ ghost use Rattle.mr_entries.specs.Outcome.{Applies};
 use crate::entries::Entries;
 use crate::fault::ApplyFault;
 use crate::value::Value;
-use mr_effect::Words;
-use mr_value::{End, Word};
+use mr_bytes::{End, Word};
+use mr_effect::EffectWords;
 
 impl Entries {
     /// Takes an item from one key's list and puts it to another's, or to the same.
@@ -81,7 +81,7 @@ impl Entries {
         if !self.takes_members(to.as_slice()) {
             return Err(ApplyFault::Refused);
         }
-        let mut members = Words::new(self.alloc);
+        let mut members = EffectWords::new(self.alloc);
         members.push(member)?;
         self.remove_members(from, members.as_slice())?;
         self.add_members(to, members)

@@ -9,8 +9,9 @@ ghost use Rattle.mr_entries.specs.Outcome.{Applies};
 use crate::entries::Entries;
 use crate::fault::ApplyFault;
 use crate::value::Value;
-use mr_effect::Words;
-use mr_value::{SetValue, Word};
+use mr_bytes::Word;
+use mr_effect::EffectWords;
+use mr_value::SetValue;
 use std::alloc::{AllocError, Global};
 
 impl Entries {
@@ -18,7 +19,7 @@ impl Entries {
     pub(super) fn add_members(
         &mut self,
         key: Word<'_>,
-        members: Words<'_>,
+        members: EffectWords<'_>,
     ) -> Result<(), ApplyFault>
         requires { IsTrue (is_some_of members) }
         ensures { Applies (at_key (add_members_step members.entry) key.entry self.old) self.old result self.new }
@@ -61,7 +62,11 @@ impl Entries {
 }
 
 /// Adds members to a set, one after another.
-fn put_members(alloc: Global, set: &mut SetValue, members: Words<'_>) -> Result<(), AllocError>
+fn put_members(
+    alloc: Global,
+    set: &mut SetValue,
+    members: EffectWords<'_>,
+) -> Result<(), AllocError>
     ensures { OnOk result (set.new ≡ with_members members.entry set.old) }
 {
     for member in members.into_vec() {

@@ -10,7 +10,7 @@ ghost use Rattle.mr_entries.specs.Outcome.{Applies};
 use crate::entries::Entries;
 use crate::fault::ApplyFault;
 use crate::value::Value;
-use mr_value::Word;
+use mr_bytes::Word;
 use mr_zset::ZSet;
 use std::alloc::AllocError;
 

@@ -1,7 +1,7 @@
 // Effects on texts, and on keys of any kind.
 ghost use Rattle.std.specs.Prelude.{◌≡◌, ◌≢◌, ◌↔◌, [], ◌++◌, is_some, Err, IfOk, None, OnOk, Some};
 ghost use Rattle.std.specs.FinMap as map;
-ghost use Rattle.mr_value.specs.Texts.{overwritten};
+ghost use Rattle.mr_bytes.specs.Texts.{overwritten};
 ghost use Rattle.mr_entries.specs.Changes.{at_key};
 ghost use Rattle.mr_entries.specs.Steps.{set_step, del_step, append_step, set_range_step, increase_step, held, on, same, texts};
 ghost use Rattle.mr_entries.specs.Texts.{fitting, increased, sum_with};
@@ -10,7 +10,7 @@ ghost use Rattle.mr_entries.specs.Outcome.{Applies};
 use crate::entries::Entries;
 use crate::fault::ApplyFault;
 use crate::value::Value;
-use mr_value::{Bytes, Word, fits, read_i64, write_i64};
+use mr_bytes::{Bytes, Word, fits, read_i64, write_i64};
 use std::alloc::Global;
 
 impl Entries {

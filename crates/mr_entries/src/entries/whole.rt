@@ -8,12 +8,12 @@ use crate::entries::Entries;
 use crate::entries::copying::same;
 use crate::fault::ApplyFault;
 use crate::value::Entry;
-use mr_effect::Pairs;
-use mr_value::Word;
+use mr_bytes::Word;
+use mr_effect::EffectPairs;
 
 impl Entries {
     /// Sets keys to texts, one after another.
-    pub(super) fn mset(&mut self, pairs: Pairs<'_>) -> Result<(), ApplyFault>
+    pub(super) fn mset(&mut self, pairs: EffectPairs<'_>) -> Result<(), ApplyFault>
         ensures { Applies (Some (with_texts pairs.entry self.old)) self.old result self.new }
     {
         for (key, text) in pairs.into_vec() {
@@ -23,7 +23,7 @@ impl Entries {
     }
 
     /// Sets keys to texts, one after another, which are copied.
-    pub(super) fn copy_all(&mut self, pairs: &Pairs<'_>) -> Result<(), ApplyFault>
+    pub(super) fn copy_all(&mut self, pairs: &EffectPairs<'_>) -> Result<(), ApplyFault>
         ensures { Applies (Some (with_texts pairs.now self.old)) self.old result self.new }
     {
         for pair in pairs.as_slice() {

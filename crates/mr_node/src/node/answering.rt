@@ -5,7 +5,7 @@ ghost use Rattle.mr_resp.specs.Replies.{error, reply_text};
 ghost use Rattle.mr_resp.specs.Faults.{fault_text};
 ghost use Rattle.mr_effect.specs.Spelling.{texts};
 ghost use Rattle.mr_data.specs.declared.given.Given.{Given};
-ghost use Rattle.mr_planning.specs.Answered.{done};
+ghost use Rattle.mr_room.specs.Answered.{done};
 ghost use Rattle.mr_ends.specs.State.{EndState, Transaction, serves};
 ghost use Rattle.mr_ends.specs.Parts.{HasAhead};
 ghost use Rattle.mr_outs.specs.Outs.{growth, outs_with, no_output, no_outs};

@@ -1,7 +1,7 @@
 // What a client's request asks of the node itself.
 ghost use Rattle.std.specs.Prelude.{◌≡◌, ◌↔◌, ℕ, List, true, IsTrue, Some, Ok};
 ghost use Rattle.mr_resp.specs.ReplyView.{view};
-ghost use Rattle.mr_planning.specs.Answered.{done};
+ghost use Rattle.mr_room.specs.Answered.{done};
 ghost use Rattle.mr_data.specs.declared.given.Given.{Given};
 ghost use Rattle.mr_cmd_node.specs.declared.node_ask.NodeAsk.{NodeAsk};
 ghost use Rattle.mr_cmd_node.specs.declared.node_ask.NodeAsk.TheVariants as node;

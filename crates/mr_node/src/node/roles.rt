@@ -1,7 +1,7 @@
 // A change of roles.
 ghost use Rattle.std.specs.Prelude.{◌≡◌, ◌≢◌, ◌<◌, ℕ, List, [], true, false, Some, OnOk};
 ghost use Rattle.mr_resp.specs.Replies.{reply_text};
-ghost use Rattle.mr_planning.specs.Answered.{done};
+ghost use Rattle.mr_room.specs.Answered.{done};
 ghost use Rattle.mr_data.specs.declared.given.Given.{Given};
 ghost use Rattle.mr_cmd_node.specs.declared.node_ask.NodeAsk.TheVariants as node;
 ghost use Rattle.mr_links.specs.declared.link_id.LinkId.{LinkId};

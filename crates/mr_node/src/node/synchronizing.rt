@@ -5,9 +5,9 @@ ghost use Rattle.mr_cmd_node.specs.declared.node_ask.NodeAsk.TheVariants as node
 ghost use Rattle.mr_ends.specs.Parts.{IsClient};
 ghost use Rattle.mr_outs.specs.Outs.{no_outs};
 ghost use Rattle.mr_repl.specs.Backlog.{first_of, bytes_from};
-ghost use Rattle.mr_lines.specs.Lines.{most_counted};
-ghost use Rattle.mr_lines.specs.Written.{reply_line, length_line};
-ghost use Rattle.mr_lines.specs.declared.psync.PsyncReply.TheVariants.{FullResync, Continue};
+ghost use Rattle.mr_peer_lines.specs.Lines.{most_counted};
+ghost use Rattle.mr_peer_lines.specs.Written.{reply_line, length_line};
+ghost use Rattle.mr_peer_lines.specs.declared.psync.PsyncReply.TheVariants.{FullResync, Continue};
 ghost use Rattle.mr_rows.specs.Growing.{Remakes, rebuilt};
 ghost use Rattle.mr_data.specs.Rebuilding.{rebuilding};
 ghost use Rattle.mr_node.specs.Reading.{Wishes};
@@ -19,10 +19,10 @@ use crate::node::Node;
 use crate::node::answering::LIMIT;
 use crate::request::StreamWish;
 use crate::step::Outcome;
-use mr_lines::{write_continue, write_full, write_length};
 use mr_links::LinkId;
 use mr_outs::Outs;
-use mr_repl::{Answer, decide};
+use mr_peer_lines::{write_continue, write_full, write_length};
+use mr_repl::{PsyncAnswer, decide};
 use std::alloc::AllocError;
 
 impl Node {
@@ -57,8 +57,8 @@ impl Node {
         ensures { OnOk result (Offers self.now.core.lineage self.now.core.held id.now wanted outs.old outs.new) }
     {
         match decide(id, wanted, &self.state.lineage().standing()) {
-            Answer::Continue(from) => self.put_tail(from, outs),
-            Answer::Full => self.put_dataset(outs),
+            PsyncAnswer::Continue(from) => self.put_tail(from, outs),
+            PsyncAnswer::Full => self.put_dataset(outs),
         }
     }
 

@@ -15,12 +15,12 @@ use crate::fault::NodeFault;
 use crate::node::Node;
 use crate::node::answering::LIMIT;
 use itoa::Buffer;
+use mr_bytes::Word;
 use mr_data::{Dataset, DueKey, Effect, Given};
 use mr_follow::Phase;
 use mr_links::LinkId;
 use mr_outs::Outs;
 use mr_resp::write_request;
-use mr_value::Word;
 use std::alloc::{AllocError, Global};
 
 /// So many keys go in one tick at most.

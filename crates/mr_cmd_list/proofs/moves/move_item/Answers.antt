@@ -1,6 +1,6 @@
 use Rattle.std.proofs.Common.{◌∙◌, ap, sym}
 use Rattle.mr_resp.specs.ReplyView.{view}
-use Rattle.mr_planning.proofs.PlanLemmas.{key_plan}
+use Rattle.mr_room.proofs.PlanLemmas.{key_plan}
 use Rattle.mr_cmd_list.specs.Moves.{rotate_answer}
 use Rattle.mr_cmd_list.proofs.MoveLemmas.{turned_plan, carried_plan}
 use Rattle.mr_cmd_list.proofs.moves.move_item.Goals as goal

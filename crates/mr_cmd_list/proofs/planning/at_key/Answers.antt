@@ -1,6 +1,6 @@
 use Rattle.std.proofs.Common.{◌∙◌, ap}
 use Rattle.mr_resp.specs.ReplyView.{view}
-use Rattle.mr_planning.proofs.PlanLemmas.{key_plan}
+use Rattle.mr_room.proofs.PlanLemmas.{key_plan}
 use Rattle.mr_cmd_list.specs.Commands.{answer_of}
 use Rattle.mr_cmd_list.proofs.NumberLemmas.{no_live_entry}
 use Rattle.mr_cmd_list.proofs.planning.at_key.Goals as goal

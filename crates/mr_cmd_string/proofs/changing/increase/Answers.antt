@@ -2,7 +2,7 @@ use Rattle.std.proofs.Common.{◌≡◌, ◌∙◌, ◌++◌, ◌∷◌, [], ◌
 use Rattle.std.specs.Prelude.{◌+ℤ◌, codes, is_some}
 use Rattle.std.specs.Ordering.{int_eq}
 use Rattle.std.proofs.lemmas.Int.{to_z-of_z}
-use Rattle.mr_value.specs.Number.{number_of}
+use Rattle.mr_bytes.specs.Number.{number_of}
 use Rattle.mr_resp.specs.Replies as reply
 use Rattle.mr_resp.specs.ReplyView.{view}
 use Rattle.mr_effect.specs.declared.effect.Effect.TheVariants as effect

@@ -4,8 +4,8 @@ use Rattle.std.specs.Str.{bytes_eq}
 use Rattle.std.proofs.lemmas.Int.{to_z-of_z}
 use Rattle.mr_resp.specs.Replies as reply
 use Rattle.mr_resp.specs.ReplyView.{view}
-use Rattle.mr_value.specs.Words.{fits}
-use Rattle.mr_value.specs.Texts.{overwritten}
+use Rattle.mr_bytes.specs.Words.{fits}
+use Rattle.mr_bytes.specs.Texts.{overwritten}
 use Rattle.mr_effect.specs.declared.effect.Effect.TheVariants as effect
 use Rattle.mr_entries.specs.Steps.{texts as strings, held}
 use Rattle.mr_cmd_string.proofs.WritingOver.{small_end, written_before, written_over}

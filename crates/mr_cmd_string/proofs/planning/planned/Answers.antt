@@ -1,6 +1,6 @@
-use Rattle.mr_planning.proofs.PlanLemmas.{is_plan}
+use Rattle.mr_room.proofs.PlanLemmas.{is_plan}
 use Rattle.mr_cmd_string.specs.Commands.{command}
 use Rattle.mr_cmd_string.proofs.planning.planned.Goals as goal
 
-pub returns-clause-plan : goal.returns-clause-plan
-returns-clause-plan c = rw c.into_plan.ensures.reply (is_plan (command c.args.ask.now c.args.given.now) _ _ _ _ _ _ c.new-effects.ensures c.into_plan.ensures.effects c.in_ok-reply.ensures.reply)
+pub returns : goal.returns
+returns c = rw c.into_plan.ensures.reply (is_plan (command c.args.ask.now c.args.given.now) _ _ _ _ _ _ c.new-effects.ensures c.into_plan.ensures.effects c.in_ok-reply.ensures)

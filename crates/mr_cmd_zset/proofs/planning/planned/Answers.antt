@@ -1,8 +1,8 @@
 use Rattle.std.proofs.Common.{◌≡◌, ◌∷◌, [], ◌++◌, option_copied}
 use Rattle.std.specs.FinMap.{get}
 use Rattle.mr_data.specs.Dataset.{live}
-use Rattle.mr_planning.specs.Keys.{dels, expired}
-use Rattle.mr_planning.proofs.PlanLemmas.{key_plan}
+use Rattle.mr_room.specs.Keys.{dels, expired}
+use Rattle.mr_room.proofs.PlanLemmas.{key_plan}
 use Rattle.mr_cmd_zset.specs.Commands.{key_of, answer_of}
 use Rattle.mr_cmd_zset.proofs.planning.planned.Goals as goal
 

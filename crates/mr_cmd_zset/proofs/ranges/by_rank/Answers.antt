@@ -1,7 +1,7 @@
 use Rattle.std.proofs.Common.{◌≡◌, ◌∙◌, ◌+◌, ◌-◌, ◌≤◌, sym, ap, map, Some, rules, arith}
 use Rattle.std.specs.Prelude.{slice_range, option_copied}
 use Rattle.std.specs.FinMap.{len}
-use Rattle.mr_value.specs.Window.{window_of}
+use Rattle.mr_bytes.specs.Window.{window_of}
 use Rattle.mr_zset.specs.Pairs.{pairs_of, shown}
 use Rattle.mr_zset.proofs.PairLemmas.{if_ok, length-pairs_of}
 use Rattle.mr_cmd_zset.specs.Ranges.{ordered, pairs_reply, ranked}

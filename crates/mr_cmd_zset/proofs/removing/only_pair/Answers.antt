@@ -1,19 +1,10 @@
-use Rattle.std.proofs.Common.{◌≡◌, ◌∙◌, ◌<◌, ap, sym, subst, ℕ, ℤ, FitsSigned, Option, w64, to_z, of_z}
-use Rattle.std.proofs.lemmas.Int.{to_z-of_z}
+use Rattle.std.proofs.Common.{◌∙◌, ◌<◌, sym, subst, ℕ}
 use Rattle.std.specs.FinMap.{len}
-use Rattle.mr_value.specs.Window.{window_of}
 use Rattle.mr_zset.specs.Pairs.{pairs_of}
 use Rattle.mr_cmd_zset.proofs.Firsts.{len_pairs}
-use Rattle.mr_cmd_zset.proofs.Removals.{window_of_one, window_of_more, window_of_none}
+use Rattle.mr_cmd_zset.proofs.Removals.{found, window_of_one, window_of_more, window_of_none}
 use Rattle.mr_cmd_zset.proofs.removing.only_pair.Goals as goal
 use Rattle.mr_cmd_zset.proofs.removing.only_pair.Goals.{in_default-via-in-Some+else-first-last, in_default-via-in_default}
-
--- the window that is found is the one of the clause
-found : (a b : ℤ) (n m : ℕ) (w : Option (ℕ × ℕ)) → FitsSigned w64 a → FitsSigned w64 b → n ≡ m → w ≡ window_of (to_z w64 (of_z w64 a)) (to_z w64 (of_z w64 b)) n → w ≡ window_of a b m
-found a b n m w a_fits b_fits same places =
-    places
-    ∙ ap (λ (x : ℤ). window_of x (to_z w64 (of_z w64 b)) n) (to_z-of_z w64 a a_fits) ∙ ap (λ (x : ℤ). window_of a x n) (to_z-of_z w64 b b_fits)
-    ∙ ap (λ (n : ℕ). window_of a b n) same
 
 pub returns-in-Some : goal.returns-in-Some
 returns-in-Some c =

@@ -1,7 +1,7 @@
 use Rattle.std.proofs.Common.{rules, ◌≡◌, ◌∙◌, ap, ℤ, Some, option_copied, w64, to_z, of_z}
 use Rattle.std.proofs.lemmas.Int.{to_z-of_z}
 use Rattle.std.specs.FinMap.{len}
-use Rattle.mr_value.specs.Window.{window_of, windowed}
+use Rattle.mr_bytes.specs.Window.{window_of, windowed}
 use Rattle.mr_zset.specs.Pairs.{pairs_of}
 use Rattle.mr_entries.specs.Steps.{sorted_sets, held}
 use Rattle.mr_cmd_zset.specs.Removing.{zremrangebyrank}

@@ -1,5 +1,5 @@
-use Rattle.std.proofs.Common.{rules, ◌≡◌, ◌∙◌, ap, map, Some, option_copied}
-use Rattle.mr_zset.specs.Pairs.{range_of, shown}
+use Rattle.std.proofs.Common.{rules, ◌≡◌, sym, Some, option_copied}
+use Rattle.mr_zset.specs.Pairs.{range_of}
 use Rattle.mr_entries.specs.Steps.{sorted_sets, held}
 use Rattle.mr_cmd_zset.specs.Removing.{zremrangebyscore}
 use Rattle.mr_cmd_zset.proofs.Removals.{pairs_made, range_in}
@@ -11,4 +11,4 @@ returns c =
     let s = c.in-Some.set.now in
     let held : held sorted_sets (option_copied c.args.live_entry) ≡ Some s = search rules in
     takes_made (zremrangebyscore c.args.key.now c.args.min c.args.max) _ s _ _ _ held
-    (pairs_made c.args.key.now (range_of c.args.min c.args.max s) _ s _ _ _ (ap (map shown) c.deref.ensures.value ∙ c.in_ok-pairs.ensures) (range_in s c.args.min c.args.max) c.in_ok-reply.ensures.reply c.in_ok-reply.ensures.effects)
+    (pairs_made c.args.key.now (range_of c.args.min c.args.max s) _ s _ _ _ (sym c.places-first.ensures.range) (range_in s c.args.min c.args.max) c.in_ok-reply.ensures.reply c.in_ok-reply.ensures.effects)

@@ -1,7 +1,7 @@
 use Rattle.std.proofs.Common.{subst, inl, inr}
 use Rattle.mr_inline.specs.Scans.{ReadsLine}
 use Rattle.mr_inline.specs.declared.scan.LineScan.{LineScan}
-use Rattle.mr_console.specs.Lines.{line_limit}
+use Rattle.mr_inline.specs.Limits.{line_limit}
 use Rattle.mr_console.proofs.LineReads.{longer, unfinished, failed}
 use Rattle.mr_console.proofs.line.script_line.Goals as goal
 

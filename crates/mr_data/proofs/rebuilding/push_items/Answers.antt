@@ -1,5 +1,5 @@
 use Rattle.std.proofs.Common.{ℕ, List, sym, ◌∙◌, ap}
-use Rattle.mr_value.specs.declared.ends.End.TheVariants.{Right}
+use Rattle.mr_bytes.specs.declared.ends.End.TheVariants.{Right}
 use Rattle.mr_effect.specs.declared.effect.Effect.TheVariants as made
 use Rattle.mr_data.proofs.Grouping.{last_put}
 use Rattle.mr_data.proofs.rebuilding.push_items.Goals as goal

@@ -1,5 +1,5 @@
 use Rattle.std.proofs.Common.{rules, ◌≡◌, ℕ, List, [], ◌∷◌, ◌++◌, length}
-use Rattle.mr_value.specs.declared.ends.End.TheVariants.{Right}
+use Rattle.mr_bytes.specs.declared.ends.End.TheVariants.{Right}
 use Rattle.mr_effect.specs.declared.effect.Effect.TheVariants as made
 use Rattle.mr_entries.specs.Cuts.{most_items}
 use Rattle.mr_data.proofs.Grouping.{writing_flushes}

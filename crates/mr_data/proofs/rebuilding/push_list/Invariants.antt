@@ -1,4 +1,4 @@
-use Rattle.mr_value.specs.declared.ends.End.TheVariants.{Right}
+use Rattle.mr_bytes.specs.declared.ends.End.TheVariants.{Right}
 use Rattle.mr_effect.specs.declared.effect.Effect.TheVariants as made
 use Rattle.mr_data.proofs.Grouping.{IsWriting}
 use Rattle.mr_data.proofs.rebuilding.push_list.Given as goal

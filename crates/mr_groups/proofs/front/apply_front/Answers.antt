@@ -13,7 +13,7 @@ turns-preserved c =
     let on = turn_behind bytes used turn.used old c.turns.dataset new turn.end c.turns.invariant.within c.turns.invariant.led c.take_turn-turn.ensures.done in
     record {
       within = on.within;
-      led = went_on bytes (used + turn.used) old new turn.end c.in-Group.is on;
+      led = went_on bytes (used + turn.used) old new turn.end c.in-Item.is on;
       kept = subst (HasRead c.take_turn-turn.new.reader) (behind_is bytes used turn.used) c.take_turn-turn.ensures.kept;
     }
 

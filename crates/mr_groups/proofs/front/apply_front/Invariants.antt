@@ -1,5 +1,5 @@
 use Rattle.std.proofs.Common.{length, take, drop, ◌-◌, ◌≤◌}
-use Rattle.mr_groups.specs.Folding.{LeadsByGroups}
+use Rattle.mr_groups.specs.Folding.{LeadsByItems}
 use Rattle.mr_groups.specs.Readers.{HasRead}
 use Rattle.mr_groups.proofs.front.apply_front.Given as goal
 
@@ -7,7 +7,7 @@ use Rattle.mr_groups.proofs.front.apply_front.Given as goal
 abbrev pub invariant-turns : goal.invariant-turns
 invariant-turns l = record {
   within : l.used ≤ length l.bytes;
-  led : LeadsByGroups (take l.used l.bytes) l.fn.dataset l.dataset;
+  led : LeadsByItems (take l.used l.bytes) l.fn.dataset l.dataset;
   kept : HasRead l.reader (drop l.used l.bytes);
 }
 

@@ -21,4 +21,4 @@ returns-in-Ok-More-clause-done c =
 pub returns-in-Ok-Bad-clause-done : goal.returns-in-Ok-Bad-clause-done
 returns-in-Ok-Bad-clause-done c =
     let bytes = c.args.bytes.now in
-    rests_bad bytes c.args.dataset.now c.args.dataset.now refl (subst (λ (n : Next). ReadsGroup bytes n) c.in-Ok-Bad.field-0-is c.in-Ok-Bad.ensures.found)
+    rests_bad bytes c.args.dataset.now c.args.dataset.now refl (subst (λ (n : Next). ReadsGroup bytes n) c.in-Ok-Bad.field-0-is c.in-Ok-Bad.ensures.found) c.requires.no_note

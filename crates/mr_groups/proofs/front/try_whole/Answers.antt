@@ -1,7 +1,6 @@
 use Rattle.std.proofs.Common.{Err, refl, subst}
 use Rattle.mr_groups.specs.Folding.{AppliesGroup}
 use Rattle.mr_groups.specs.declared.applying.GroupFault.{GroupFault}
-use Rattle.mr_groups.proofs.Going.{torn_undefined}
 use Rattle.mr_groups.proofs.front.try_whole.Goals as goal
 
 pub returns-in-Err-Torn : goal.returns-in-Err-Torn
@@ -9,4 +8,4 @@ returns-in-Err-Torn c =
     let es = c.args.effects.items in
     let old = c.args.dataset.now in
     let new = c.apply_group_owned.new.dataset in
-    (refl, torn_undefined es old new (subst (λ (f : GroupFault). AppliesGroup es old (Err f) new) c.in-Err-Torn.field-0-is c.in-Err-Torn.ensures))
+    (refl, subst (λ (f : GroupFault). AppliesGroup es old (Err f) new) c.in-Err-Torn.field-0-is c.in-Err-Torn.ensures)

@@ -1,4 +1,4 @@
-use Rattle.std.proofs.Common.{ap, subst, sym, ◌∙◌}
+use Rattle.std.proofs.Common.{[], ◌∷◌, ap, refl, subst, sym, ◌∙◌}
 use Rattle.mr_links.specs.Links.{Links}
 use Rattle.mr_wire.specs.Wire.{LinkState}
 use Rattle.mr_loop.specs.Outcomes.{Turns}
@@ -16,8 +16,10 @@ returns-in-Ok-clause-went g c =
     let waited : HasWaited s (on (g.W.Wire.links wire)) = record { later = c.wait.ensures.later; is = ap on c.wait.ensures.same } in
     let new = c.turn_at.new in
     let t = stage new.node new.own (g.W.Wire.links new.wire) (g.W.Wire.failures new.wire) (g.F.LogFile.told new.log.file) (g.F.LogFile.synced new.log.file) in
-    waited_turns g.W.Wire.tells log.mode (g.S.Source.clock new.source) s (on (g.W.Wire.links wire)) t c.turn_at.result waited
-    (subst (λ now. Turns g.W.Wire.tells log.mode now c.turn_at.result (on (g.W.Wire.links wire)) t) (c.begun-moment.ensures.time ∙ sym c.turn_at.ensures.clock) c.turn_at.ensures.went)
+    let moment = c.begun-moment.result in
+    let first = g.S.Source.drawn c.begun-moment.new.source in
+    waited_turns g.W.Wire.tells log.mode (g.S.Source.clock new.source) moment.fresh (g.S.Source.drawn c.args.source.now) first (g.S.Source.drawn new.source) s (on (g.W.Wire.links wire)) t c.turn_at.result c.begun-moment.ensures.drawn waited c.turn_at.ensures.listener
+    (subst (λ now. Turns g.W.Wire.tells log.mode now (moment.fresh ∷ []) first (g.S.Source.drawn new.source) c.turn_at.result (on (g.W.Wire.links wire)) t) (c.begun-moment.ensures.time ∙ sym c.turn_at.ensures.clock) c.turn_at.ensures.went)
 
 pub returns-in-Ok-clause-hurries : goal.returns-in-Ok-clause-hurries
 returns-in-Ok-clause-hurries g c = λ tells hurries. c.turn_at.ensures.waited ∙ c.wait.ensures.hurries tells hurries
@@ -30,4 +32,5 @@ returns-in-Err-clause-went g c =
     let log = c.args.log.now in record {
       rose = c.in-Err.ensures.cause;
       is = ap (λ (w : Links LinkState). stage c.args.node.now c.args.links.now w (g.W.Wire.failures c.wait.new.wire) (g.F.LogFile.told log.file) (g.F.LogFile.synced log.file)) c.wait.ensures.same;
+      none_drawn = refl;
     }

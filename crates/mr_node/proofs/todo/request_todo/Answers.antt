@@ -1,6 +1,6 @@
 use Rattle.std.proofs.Common.{map, subst, sym, ◌∙◌}
 use Rattle.std.specs.Cow.{cow_slice_items}
-use Rattle.mr_plan.proofs.Rooms.{room_of}
+use Rattle.mr_commands.proofs.Rooms.{room_of}
 use Rattle.mr_node.specs.Reading.{IsDone}
 use Rattle.mr_node.specs.declared.todo.Todo.{Todo}
 use Rattle.mr_node.proofs.Reading.{answer_done}

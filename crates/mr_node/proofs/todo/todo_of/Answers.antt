@@ -2,7 +2,7 @@ use Rattle.std.proofs.Common.{arith, ◌≤◌, map, take, length, subst, sym, a
 use Rattle.std.proofs.lemmas.List.{length-map}
 use Rattle.std.specs.Cow.{cow_slice_items}
 use Rattle.std.specs.List.{list_all}
-use Rattle.mr_value.specs.Words.{fits}
+use Rattle.mr_bytes.specs.Words.{fits}
 use Rattle.mr_resp.specs.Scans.{BeginsWithRequest}
 use Rattle.mr_resp.specs.declared.request.Scan.TheVariants.{Whole}
 use Rattle.mr_resp.specs.Resumed.{Agrees}

@@ -11,7 +11,8 @@ returns-clause-shape c =
     let ended = grown (number_rule (codes "turns") 0 (2 ^ 64 - 1)) synced c.in_ok-ended.ensures.shape in
     let held = grown (number_rule (codes "backlog") 1 (2 ^ 30)) ended c.in_ok-held.ensures.shape in
     let led = grown (text_rule (codes "replicaof")) held c.in_ok-led.ensures.shape in
-    with_last c.with_text-4.result (text_rule (codes "bind")) led c.with_text-4.ensures.shape
+    let bound = grown (text_rule (codes "bind")) led c.in_ok-bound.ensures.shape in
+    with_last c.with_number-3.result (number_rule (codes "repl-timeout") 1 86400) bound c.with_number-3.ensures.shape
 
 pub returns-clause-local : goal.returns-clause-local
-returns-clause-local c = c.with_text-4.ensures.local
+returns-clause-local c = c.with_number-3.ensures.local

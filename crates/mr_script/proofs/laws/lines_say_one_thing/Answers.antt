@@ -1,6 +1,6 @@
 use Rattle.std.proofs.Common.{◌≡◌, [], Some, refl, ap, sym, ◌∙◌}
 use Rattle.mr_inline.proofs.LinesByRuns.{one_list}
-use Rattle.mr_script.specs.Lines.{line_limit}
+use Rattle.mr_inline.specs.Limits.{line_limit}
 use Rattle.mr_script.specs.Reading.{said_by}
 use Rattle.mr_script.proofs.Spoken.{what_is_said}
 use Rattle.mr_script.proofs.laws.lines_say_one_thing.Goals as goal

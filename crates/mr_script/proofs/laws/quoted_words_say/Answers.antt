@@ -1,5 +1,5 @@
 use Rattle.mr_inline.proofs.QuotedLines.{quoted_is_read}
-use Rattle.mr_script.specs.Lines.{line_limit}
+use Rattle.mr_inline.specs.Limits.{line_limit}
 use Rattle.mr_script.proofs.laws.quoted_words_say.Goals as goal
 
 pub returns : goal.returns

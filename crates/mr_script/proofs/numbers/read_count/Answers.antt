@@ -3,7 +3,7 @@ use Rattle.std.specs.Str.{IsUtf8}
 use Rattle.std.proofs.lemmas.Fmt.{IsAscii-decimal, parse-decimal}
 use Rattle.std.proofs.lemmas.Slice.Eq.{bytes_eq-Decides}
 use Rattle.std.proofs.lemmas.Str.{IsUtf8-from_ascii}
-use Rattle.mr_value.proofs.Numbers.{same_bytes}
+use Rattle.mr_bytes.proofs.Numbers.{same_bytes}
 use Rattle.mr_script.proofs.Counts.{count_is, no_count}
 use Rattle.mr_script.proofs.numbers.read_count.Goals as goal
 

@@ -1,5 +1,5 @@
 use Rattle.std.proofs.Common.{◌≢◌, ◌<◌, ◌-◌, length, get_or, take, drop, Some, None, sym, ap, ◌∙◌, arith}
-use Rattle.mr_value.proofs.Numbers.{begins}
+use Rattle.mr_bytes.proofs.Numbers.{begins}
 use Rattle.mr_zset.proofs.BoundLemmas.{bound_excluding, bound_plain, no_byte}
 use Rattle.mr_zset.proofs.bound.read_bound.Goals as goal
 use Rattle.mr_zset.proofs.bound.read_bound.Goals.{in_default-via-then-text-lt1, in_default-via-else-text-lt1+in_default-1}

@@ -1,6 +1,6 @@
 use Rattle.std.proofs.Common.{◌≡◌, map}
 use Rattle.std.specs.Cow.{cow_slice_items}
-use Rattle.mr_words.specs.Options.{added}
+use Rattle.mr_arguments.specs.Options.{added}
 use Rattle.mr_cmd_key.specs.Options.{scan_pair, scan_options}
 use Rattle.mr_cmd_key.proofs.options.ScanOptions.read.Given as goal
 

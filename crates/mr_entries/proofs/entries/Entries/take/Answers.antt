@@ -1,6 +1,6 @@
 use Rattle.std.proofs.Common.{subst, to_z, of_z, w64}
 use Rattle.std.specs.Prelude.{IsTrue}
-use Rattle.mr_value.specs.Number.{is_i64}
+use Rattle.mr_bytes.specs.Number.{is_i64}
 use Rattle.mr_effect.specs.Effects.{has_spelling}
 use Rattle.mr_entries.specs.Changes.{change, at_key}
 use Rattle.mr_entries.specs.Outcome.{Applies}

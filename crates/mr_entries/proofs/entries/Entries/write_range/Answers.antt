@@ -1,7 +1,7 @@
 use Rattle.std.specs.FinMap.{get}
 use Rattle.mr_entries.specs.Steps.{deadline_of}
 use Rattle.std.proofs.Common.{[]}
-use Rattle.mr_value.specs.Texts.{overwritten}
+use Rattle.mr_bytes.specs.Texts.{overwritten}
 use Rattle.mr_entries.specs.Texts.{fitting}
 use Rattle.mr_entries.proofs.Stepping.{entry_at, is_there}
 use Rattle.mr_entries.proofs.TextSteps.{refuses_other, changes}

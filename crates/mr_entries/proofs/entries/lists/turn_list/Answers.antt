@@ -1,5 +1,5 @@
 use Rattle.std.proofs.Common.{ap, ◌∙◌, sym, Some}
-use Rattle.mr_value.specs.declared.ends.End.TheVariants.{Left, Right}
+use Rattle.mr_bytes.specs.declared.ends.End.TheVariants.{Left, Right}
 use Rattle.mr_entries.proofs.Ends.{turned_same, turned_right_left}
 use Rattle.mr_entries.proofs.entries.lists.turn_list.Goals as goal
 

@@ -11,8 +11,8 @@ invariant_of-self c =
 
 pub invariant_of-self-in-Some : goal.invariant_of-self-in-Some
 invariant_of-self-in-Some c =
-    leaves_with c.self.inside.by_key c.args.key.now c.self.inside.timed_keys c.self.invariant c.from_bytes-key.result c.unindex.new.timed_keys c.remove_entry.new.self
-    (c.from_bytes-key.ensures ∙ c.from_vec.ensures ∙ c.in_ok-name.ensures.key) c.unindex.ensures c.remove_entry.ensures.removed
+    leaves_with c.self.inside.by_key c.args.key.now c.self.inside.timed_keys c.self.invariant c.from_held-name.result c.unindex.new.timed_keys c.remove_entry.new.self
+    (c.from_held-name.ensures ∙ c.in_ok-name.ensures.key) c.unindex.ensures c.remove_entry.ensures.removed
 
 pub invariant_of-self-in-None-1 : goal.invariant_of-self-in-None-1
 invariant_of-self-in-None-1 c =

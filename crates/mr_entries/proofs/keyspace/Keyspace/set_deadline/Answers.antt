@@ -1,4 +1,4 @@
-use Rattle.std.proofs.Common.{rules, ◌≡◌, Some, sym, ◌∙◌}
+use Rattle.std.proofs.Common.{rules, ◌≡◌, sym, ◌∙◌}
 use Rattle.mr_entries.proofs.Maps.{insert_same}
 use Rattle.mr_entries.proofs.Index.{IsIndex-kept, IsIndex-set}
 use Rattle.mr_entries.proofs.keyspace.Keyspace.set_deadline.Goals as goal

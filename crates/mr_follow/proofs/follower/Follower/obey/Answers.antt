@@ -1,6 +1,6 @@
 use Rattle.std.proofs.Common.{rules, ◌≡◌, None, IsSome, sym, ap, subst, ◌∙◌}
-use Rattle.mr_lines.specs.Replies.{IsReplyText}
-use Rattle.mr_lines.specs.declared.psync.PsyncReply.{PsyncReply}
+use Rattle.mr_peer_lines.specs.Replies.{IsReplyText}
+use Rattle.mr_peer_lines.specs.declared.psync.PsyncReply.{PsyncReply}
 use Rattle.mr_follow.specs.State.{FollowState}
 use Rattle.mr_follow.proofs.Stepping.{answer_unasked, answer_full, answer_continue}
 use Rattle.mr_follow.proofs.follower.Follower.obey.Goals as goal

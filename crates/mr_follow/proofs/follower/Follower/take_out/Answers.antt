@@ -1,5 +1,5 @@
 use Rattle.std.proofs.Common.{rules, ◌≡◌, ℕ, List, Option, Some, None, Ok, drop, sym, ap, subst, ◌∙◌}
-use Rattle.mr_lines.specs.Lines.{size}
+use Rattle.mr_peer_lines.specs.Lines.{size}
 use Rattle.mr_follow.specs.Lines.{IsFront, HearsLength}
 use Rattle.mr_follow.specs.State.{FollowState}
 use Rattle.mr_follow.specs.declared.status.Announced.{Announced}

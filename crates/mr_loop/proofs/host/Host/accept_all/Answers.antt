@@ -1,4 +1,5 @@
 use Rattle.std.proofs.Common.{rules, ◌≡◌, Err}
+use Rattle.mr_loop.specs.Hosts.{moment_in}
 use Rattle.mr_loop.proofs.Same.{same_here, same_on}
 use Rattle.mr_loop.proofs.Runs.{breaks, broke_moded, still_broke, still_here, still_moded, still_on}
 use Rattle.mr_loop.proofs.host.Host.accept_all.Goals as goal
@@ -10,7 +11,7 @@ pub returns-in_err-accept_next-clause-went : goal.returns-in_err-accept_next-cla
 returns-in_err-accept_next-clause-went g c =
     let why = c.in_err-accept_next.field-0.0 in
     let told : c.from_residual.result ≡ Err why = search rules in
-    breaks c.args.self.now.moment.turn c.accept_next.new.self.moment.turn c.from_residual.result why told
+    breaks (moment_in g.S.Source.drawn c.args.self.now) (moment_in g.S.Source.drawn c.accept_next.new.self) c.from_residual.result why told
     (still_broke c.loop.invariant.0 (broke_moded c.loop.self.log.now.mode c.args.self.now.log.now.mode c.loop.invariant.1.mode c.in_err-accept_next.ensures.went))
 
 pub returns-in_err-accept_next-clause-same : goal.returns-in_err-accept_next-clause-same

@@ -17,7 +17,7 @@ pub loop-out-preserved : goal.loop-out-preserved
 loop-out-preserved g c =
     let on = stage_in g.W.Wire.links g.W.Wire.failures g.F.LogFile.told g.F.LogFile.synced in (
       one_so_far (outs_of c.args.outs.now) c.loop-out.out-iterator c.next.new.self (out_view c.in-Some.out) (on c.args.self.now) (on c.loop-out.self) (on c.carry.new.self) c.in-Some.ensures.steps c.loop-out.invariant.0 c.in_ok-carry.ensures.carried,
-      c.carry.ensures.turn ∙ c.loop-out.invariant.1,
+      c.carry.ensures.moment ∙ c.loop-out.invariant.1,
       same_on c.args.self.now c.loop-out.self c.carry.new.self c.loop-out.invariant.2 c.carry.ensures.same,
     )
 
@@ -28,8 +28,8 @@ returns-in_err-carry-clause-carried g c =
     let on = stage_in g.W.Wire.links g.W.Wire.failures g.F.LogFile.told g.F.LogFile.synced in
     answers_so_far c.from_residual.result why (outs_of c.args.outs.now) c.loop-out.out-iterator c.next.new.self (out_view c.in-Some.out) (on c.args.self.now) (on c.loop-out.self) (on c.carry.new.self) told c.in-Some.ensures.steps c.loop-out.invariant.0 c.in_err-carry.ensures.carried
 
-pub returns-in_err-carry-clause-turn : goal.returns-in_err-carry-clause-turn
-returns-in_err-carry-clause-turn g c = c.carry.ensures.turn ∙ c.loop-out.invariant.1
+pub returns-in_err-carry-clause-moment : goal.returns-in_err-carry-clause-moment
+returns-in_err-carry-clause-moment g c = c.carry.ensures.moment ∙ c.loop-out.invariant.1
 
 pub returns-in_err-carry-clause-same : goal.returns-in_err-carry-clause-same
 returns-in_err-carry-clause-same g c = same_on c.args.self.now c.loop-out.self c.carry.new.self c.loop-out.invariant.2 c.carry.ensures.same
@@ -39,8 +39,8 @@ returns-clause-carried g c =
     let on = stage_in g.W.Wire.links g.W.Wire.failures g.F.LogFile.told g.F.LogFile.synced in
     all_so_far (outs_of c.args.outs.now) c.loop-out.out-iterator (on c.args.self.now) (on c.loop-out.self) c.in-None.ensures.steps.0 c.loop-out.invariant.0
 
-pub returns-clause-turn : goal.returns-clause-turn
-returns-clause-turn g c = c.loop-out.invariant.1
+pub returns-clause-moment : goal.returns-clause-moment
+returns-clause-moment g c = c.loop-out.invariant.1
 
 pub returns-clause-same : goal.returns-clause-same
 returns-clause-same g c = c.loop-out.invariant.2

@@ -1,5 +1,5 @@
 use Rattle.std.proofs.Common.{rules, ◌≡◌, refl, subst, sym}
-use Rattle.mr_loop.specs.Hosts.{stage_in}
+use Rattle.mr_loop.specs.Hosts.{moment_in, stage_in}
 use Rattle.mr_loop.specs.Rows.{misses_dial}
 use Rattle.mr_wire.specs.Wire.{Connects}
 use Rattle.mr_loop.proofs.Arrivals.{failed_row, from_own}
@@ -23,10 +23,10 @@ returns-in-Ok-clause-went g c =
     let before = g.W.Wire.links s.wire.now in
     let after = g.W.Wire.links c.connect.new.self in
     let came = subst (λ h. Connects before h c.in-Some.address.now.port c.in-Ok.socket after) host (subst (λ p. Connects before c.host.result.now p c.in-Ok.socket after) port c.in-Ok.ensures.ok) in
-    from_own g.W.Wire.tells s.log.now.mode c.dial_on.result s.moment.turn c.dial_on.new.self.moment.turn (stage_in g.W.Wire.links g.W.Wire.failures g.F.LogFile.told g.F.LogFile.synced s) _ c.note_dial.new.self c.note_dial.ensures
+    from_own g.W.Wire.tells s.log.now.mode c.dial_on.result (moment_in g.S.Source.drawn s) (moment_in g.S.Source.drawn c.dial_on.new.self) (stage_in g.W.Wire.links g.W.Wire.failures g.F.LogFile.told g.F.LogFile.synced s) _ c.note_dial.new.self c.note_dial.ensures
     (c.dial_on.ensures.went before (g.W.Wire.failures s.wire.now) c.in-Some.address.now (sym c.in-Some.ensures) came c.in-Ok.ensures.later)
 
 pub returns-in-Err-clause-went : goal.returns-in-Err-clause-went
 returns-in-Err-clause-went g c =
-    let turn = c.args.self.now.moment.turn in
-    still_one misses_dial turn turn refl refl refl refl refl refl (failed_row c.in-Err.ensures.err c.in-Err.ensures.cause c.in-Err.ensures.later refl c.note_dial.ensures (refl, refl)) refl
+    let moment = moment_in g.S.Source.drawn c.args.self.now in
+    still_one misses_dial moment moment refl refl refl refl refl refl refl (λ now ids. refl) (failed_row c.in-Err.ensures.err c.in-Err.ensures.cause c.in-Err.ensures.later refl c.note_dial.ensures (refl, refl)) refl

@@ -1,10 +1,11 @@
-use Rattle.std.proofs.Common.{rules, ◌≡◌, ◌≤◌, Err, ap, refl, sym, subst, ◌∙◌}
+use Rattle.std.proofs.Common.{rules, ◌≡◌, ◌≤◌, [], ◌∷◌, Err, ap, refl, sym, subst, ◌∙◌}
 use Rattle.mr_node.specs.Calls.{DialRow}
 use Rattle.mr_wire.specs.Wire.{asked_link}
 use Rattle.mr_loop.specs.declared.fault.LoopFault.TheVariants as fault
 use Rattle.mr_loop.specs.Stage.{LoopState, stage}
-use Rattle.mr_loop.specs.Causes.{at_open, dials_and_closes, stays}
+use Rattle.mr_loop.specs.Causes.{dials_and_closes, stays, stops_at_open}
 use Rattle.mr_loop.specs.Rows.{misses_dial, stops}
+use Rattle.mr_loop.specs.Hosts.{moment_in}
 use Rattle.mr_loop.proofs.Arrivals.{closed_again, dialled_as, dialled_waits, full_row, lacks_row, ok_no_err}
 use Rattle.mr_loop.proofs.Runs.{broke_one, still_broke, still_one}
 use Rattle.mr_loop.proofs.Waiting.{all_is, closed_all, dialled_all}
@@ -13,7 +14,7 @@ use Rattle.mr_loop.proofs.host.Host.dial_on.Goals as goal
 pub returns-in-Ok-join-clause-went : goal.returns-in-Ok-join-clause-went
 returns-in-Ok-join-clause-went g c = λ before failed address told came later.
     let s = c.args.self.now in
-    dialled_as g.W.Wire.tells s.log.now.mode c.take.result s.moment.turn c.take.new.self.moment.turn c.in-Ok.outs c.args.socket c.in-Ok.link
+    dialled_as g.W.Wire.tells s.log.now.mode c.take.result (moment_in g.S.Source.drawn s) (moment_in g.S.Source.drawn c.take.new.self) c.in-Ok.outs c.args.socket c.in-Ok.link
     (stage s.node.now s.own.now before failed (g.F.LogFile.told s.log.now.file) (g.F.LogFile.synced s.log.now.file))
     (stage c.dial.new.self c.join.new.self (g.W.Wire.links s.wire.now) (g.W.Wire.failures s.wire.now) (g.F.LogFile.told s.log.now.file) (g.F.LogFile.synced s.log.now.file)) _
     (record {
@@ -30,7 +31,7 @@ returns-in-Ok-join-clause-went g c = λ before failed address told came later.
       lacked = ap (λ (o : LoopState). o.lacked) c.in-Ok-join.ensures.joined;
       file = (refl, refl);
     })
-    c.take.ensures.carried c.take.ensures.turn
+    c.take.ensures.carried c.take.ensures.moment c.take.ensures.kept
 
 pub returns-in-Ok-join-clause-quiet : goal.returns-in-Ok-join-clause-quiet
 returns-in-Ok-join-clause-quiet g c = λ q.
@@ -41,8 +42,8 @@ returns-in-Ok-join-clause-quiet g c = λ q.
 
 pub returns-in-Err-join-clause-went : goal.returns-in-Err-join-clause-went
 returns-in-Err-join-clause-went g c = λ before failed address told came later.
-    let turn = c.args.self.now.moment.turn in
-    still_one misses_dial turn turn refl refl refl refl refl refl
+    let moment = moment_in g.S.Source.drawn c.args.self.now in
+    still_one misses_dial moment moment refl refl refl refl refl refl refl (λ now ids. refl)
     (lacks_row
     (closed_again before (g.W.Wire.links c.args.self.now.wire.now) (g.W.Wire.links c.close-in-Err-join.new.self) c.args.socket (asked_link came.0) came.2 c.close-in-Err-join.ensures.closed c.close-in-Err-join.ensures.opened)
     (subst (λ k. failed ≤ k) (sym c.close-in-Err-join.ensures.failures) later) (dials_and_closes c.dial.new.self c.in-Ok.link c.in-Ok.outs c.in-Ok.ensures.1 c.close.ensures) c.in-Err-join.ensures.err (refl, refl)) refl
@@ -52,21 +53,21 @@ returns-in-Err-join-clause-quiet g c = λ q. all_is c.close.ensures (closed_all 
 
 pub returns-in-Err-Stopped-clause-went : goal.returns-in-Err-Stopped-clause-went
 returns-in-Err-Stopped-clause-went g c = λ before failed address told came later.
-    let turn = c.args.self.now.moment.turn in
+    let moment = moment_in g.S.Source.drawn c.args.self.now in
     let is = c.in-Err-Stopped.is ∙ ap Err c.in-Err-Stopped.field-0-is in
     let row = subst (DialRow c.args.self.now.node.now c.dial.new.self) is c.dial.ensures in
-    still_broke (still_one misses_dial turn turn refl refl refl refl refl refl
+    still_broke (still_one misses_dial moment moment refl refl refl refl refl refl refl (λ now ids. refl)
     (full_row c.dial.new.self
     (closed_again before (g.W.Wire.links c.args.self.now.wire.now) (g.W.Wire.links c.close-in-Err-Stopped.new.self) c.args.socket (asked_link came.0) came.2 c.close-in-Err-Stopped.ensures.closed c.close-in-Err-Stopped.ensures.opened)
     (subst (λ k. failed ≤ k) (sym c.close-in-Err-Stopped.ensures.failures) later) row refl refl (refl, refl)) refl)
-    (broke_one stops refl (record { why = at_open row; own = refl; wire = refl; failed = refl; file = (refl, refl) }))
+    (broke_one (stops stops_at_open) (c.args.self.now.moment.fresh ∷ []) refl refl refl (record { why = row; own = refl; wire = refl; failed = refl; file = (refl, refl) }))
 
 pub returns-in-Err : goal.returns-in-Err
 returns-in-Err g c =
-    let turn = c.args.self.now.moment.turn in
+    let moment = moment_in g.S.Source.drawn c.args.self.now in
     let same : c.dial.new.self ≡ c.args.self.now.node.now = search rules in
     record {
-      went = λ before failed address told came later. still_one misses_dial turn turn refl refl refl refl refl refl
+      went = λ before failed address told came later. still_one misses_dial moment moment refl refl refl refl refl refl refl (λ now ids. refl)
           (lacks_row
           (closed_again before (g.W.Wire.links c.args.self.now.wire.now) (g.W.Wire.links c.close-in-Err.new.self) c.args.socket (asked_link came.0) came.2 c.close-in-Err.ensures.closed c.close-in-Err.ensures.opened)
           (subst (λ k. failed ≤ k) (sym c.close-in-Err.ensures.failures) later) (stays same) c.lack.ensures (refl, refl)) refl;

@@ -1,11 +1,12 @@
-use Rattle.std.proofs.Common.{rules, ◌≡◌, ◌≤◌, Bool, true, Result, Ok, Err, ap, refl, sym, subst, ◌∙◌}
+use Rattle.std.proofs.Common.{rules, ◌≡◌, ◌≤◌, [], ◌∷◌, Bool, true, Result, Ok, Err, ap, refl, sym, subst, ◌∙◌}
 use Rattle.mr_node.specs.Calls.{OpenRow}
 use Rattle.mr_wire.specs.Wire.{new_link}
 use Rattle.mr_loop.specs.declared.fault.LoopFault.{LoopFault}
 use Rattle.mr_loop.specs.declared.fault.LoopFault.TheVariants as fault
 use Rattle.mr_loop.specs.Stage.{LoopState}
-use Rattle.mr_loop.specs.Causes.{at_open, opens_and_closes, stays}
+use Rattle.mr_loop.specs.Causes.{opens_and_closes, stays, stops_at_open}
 use Rattle.mr_loop.specs.Rows.{joins, stops, turns_away}
+use Rattle.mr_loop.specs.Hosts.{moment_in}
 use Rattle.mr_loop.proofs.Arrivals.{closed_again, full_row, lacks_row}
 use Rattle.mr_loop.proofs.Runs.{broke_one, still_broke, still_one}
 use Rattle.mr_loop.proofs.Waiting.{all_is, closed_all, opened_all}
@@ -13,8 +14,8 @@ use Rattle.mr_loop.proofs.host.Host.join.Goals as goal
 
 pub returns-in-Ok-join-clause-went : goal.returns-in-Ok-join-clause-went
 returns-in-Ok-join-clause-went g c = λ before failed came later.
-    let turn = c.args.self.now.moment.turn in
-    still_one (joins c.args.socket c.in-Ok.link) turn turn refl refl refl refl refl refl (record {
+    let moment = moment_in g.S.Source.drawn c.args.self.now in
+    still_one (joins c.args.socket c.in-Ok.link) moment moment refl refl refl refl refl refl refl (λ now ids. refl) (record {
       wire = came;
       later = later;
       node = c.in-Ok.ensures.1;
@@ -32,8 +33,8 @@ returns-in-Ok-join-clause-quiet g c = λ q. opened_all c.in-Ok.ensures.1 q
 
 pub returns-in-Err-join-clause-went : goal.returns-in-Err-join-clause-went
 returns-in-Err-join-clause-went g c = λ before failed came later.
-    let turn = c.args.self.now.moment.turn in
-    still_one turns_away turn turn refl refl refl refl refl refl
+    let moment = moment_in g.S.Source.drawn c.args.self.now in
+    still_one turns_away moment moment refl refl refl refl refl refl refl (λ now ids. refl)
     (lacks_row
     (closed_again before (g.W.Wire.links c.args.self.now.wire.now) (g.W.Wire.links c.close-in-Err-join.new.self) c.args.socket new_link came c.close-in-Err-join.ensures.closed c.close-in-Err-join.ensures.opened)
     (subst (λ k. failed ≤ k) (sym c.close-in-Err-join.ensures.failures) later) (opens_and_closes c.open.new.self c.in-Ok.link c.in-Ok.ensures.1 c.close.ensures) c.in-Err-join.ensures.err (refl, refl)) refl
@@ -43,24 +44,24 @@ returns-in-Err-join-clause-quiet g c = λ q. all_is c.close.ensures (closed_all 
 
 pub returns-in-Err-Stopped-clause-went : goal.returns-in-Err-Stopped-clause-went
 returns-in-Err-Stopped-clause-went g c = λ before failed came later.
-    let turn = c.args.self.now.moment.turn in
+    let moment = moment_in g.S.Source.drawn c.args.self.now in
     let is = c.in-Err-Stopped.is ∙ ap Err c.in-Err-Stopped.field-0-is in
     let row = subst (OpenRow c.args.self.now.node.now c.open.new.self) is c.open.ensures in
-    still_broke (still_one turns_away turn turn refl refl refl refl refl refl
+    still_broke (still_one turns_away moment moment refl refl refl refl refl refl refl (λ now ids. refl)
     (full_row c.open.new.self
     (closed_again before (g.W.Wire.links c.args.self.now.wire.now) (g.W.Wire.links c.close-in-Err-Stopped.new.self) c.args.socket new_link came c.close-in-Err-Stopped.ensures.closed c.close-in-Err-Stopped.ensures.opened)
     (subst (λ k. failed ≤ k) (sym c.close-in-Err-Stopped.ensures.failures) later) row refl refl (refl, refl)) refl)
-    (broke_one stops refl (record { why = at_open row; own = refl; wire = refl; failed = refl; file = (refl, refl) }))
+    (broke_one (stops stops_at_open) (c.args.self.now.moment.fresh ∷ []) refl refl refl (record { why = row; own = refl; wire = refl; failed = refl; file = (refl, refl) }))
 
 no_fault : ◌≡◌ {A = Result Bool LoopFault} (Ok true) (Err fault.File) → ⊥
 no_fault e = cc
 
 pub returns-in-Err : goal.returns-in-Err
 returns-in-Err g c =
-    let turn = c.args.self.now.moment.turn in
+    let moment = moment_in g.S.Source.drawn c.args.self.now in
     let same : c.open.new.self ≡ c.args.self.now.node.now = search rules in
     record {
-      went = λ before failed came later. still_one turns_away turn turn refl refl refl refl refl refl
+      went = λ before failed came later. still_one turns_away moment moment refl refl refl refl refl refl refl (λ now ids. refl)
           (lacks_row
           (closed_again before (g.W.Wire.links c.args.self.now.wire.now) (g.W.Wire.links c.close-in-Err.new.self) c.args.socket new_link came c.close-in-Err.ensures.closed c.close-in-Err.ensures.opened)
           (subst (λ k. failed ≤ k) (sym c.close-in-Err.ensures.failures) later) (stays same) c.lack.ensures (refl, refl)) refl;

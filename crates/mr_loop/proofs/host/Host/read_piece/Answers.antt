@@ -1,5 +1,6 @@
 use Rattle.std.proofs.Common.{ap, refl}
 use Rattle.mr_loop.specs.Stage.{LoopState, stage}
+use Rattle.mr_loop.specs.Hosts.{moment_in}
 use Rattle.mr_loop.proofs.Runs.{stays_still, still_here}
 use Rattle.mr_loop.proofs.host.Host.read_piece.Goals as goal
 
@@ -12,7 +13,7 @@ returns-in_default-link-clause-went g c = still_here _ _
 pub returns-then-is_full-clause-went : goal.returns-then-is_full-clause-went
 returns-then-is_full-clause-went g c =
     let s = c.args.self.now in
-    stays_still s.moment.turn s.moment.turn _ _ (ap (λ (o : LoopState). stage s.node.now o (g.W.Wire.links s.wire.now) (g.W.Wire.failures s.wire.now) (g.F.LogFile.told s.log.now.file) (g.F.LogFile.synced s.log.now.file)) c.narrow.ensures) refl
+    stays_still (moment_in g.S.Source.drawn s) (moment_in g.S.Source.drawn s) _ _ (ap (λ (o : LoopState). stage s.node.now o (g.W.Wire.links s.wire.now) (g.W.Wire.failures s.wire.now) (g.F.LogFile.told s.log.now.file) (g.F.LogFile.synced s.log.now.file)) c.narrow.ensures) refl
 
 pub returns-in_default-room-clause-went : goal.returns-in_default-room-clause-went
 returns-in_default-room-clause-went g c = still_here _ _

@@ -1,20 +1,21 @@
-use Rattle.std.proofs.Common.{rules, ◌≡◌, Ok, Err, refl, ap, subst, ◌∙◌}
+use Rattle.std.proofs.Common.{rules, ◌≡◌, [], ◌∷◌, Ok, Err, refl, ap, subst, ◌∙◌}
 use Rattle.mr_outs.specs.Outs.{OutsState, outs_of}
 use Rattle.mr_node.specs.Steps.{Steps}
 use Rattle.mr_node.specs.declared.fault.NodeFault.TheVariants as refusal
 use Rattle.mr_node.specs.declared.step.Step.TheVariants as step
-use Rattle.mr_loop.specs.Causes.{Stepped, Stopping, at_step, has}
-use Rattle.mr_loop.specs.Causes.Stopping.{at_step as stops_at}
+use Rattle.mr_loop.specs.Causes.{Stepped, at_step, has, stops_at_step}
 use Rattle.mr_loop.specs.Carrying.{Carried, CarriesAs}
-use Rattle.mr_loop.specs.Counting.{taken}
-use Rattle.mr_loop.specs.Hosts.{stage_in}
+use Rattle.mr_loop.specs.Counting.{MomentState, Renewed}
+use Rattle.mr_loop.specs.Hosts.{moment_in, stage_in}
 use Rattle.mr_loop.specs.Rows.{idles, is_refused, stops}
 use Rattle.mr_loop.proofs.Arrivals.{dropped_from}
 use Rattle.mr_loop.proofs.Linked.{carried_linked}
-use Rattle.mr_loop.proofs.Outs.{acts_less, counts_call, lacks_memory, never_closed, not_told, refused_all, steps_at, steps_once}
+use Rattle.mr_loop.proofs.Outs.{acts_less, counts_call, given_none, lacks_memory, never_closed, news_at, not_told, refused_all, steps_at, steps_once}
 use Rattle.mr_loop.proofs.Same.{same_on}
 use Rattle.mr_loop.proofs.Runs.{breaks, broke_one}
 use Rattle.mr_loop.proofs.Stepped.{done_others, idle_all}
+use Rattle.mr_loop.proofs.Supplying.{counted_only, gives_step}
+use Rattle.mr_loop.proofs.Taking.{step_takes}
 use Rattle.mr_loop.proofs.Waiting.{carried_others}
 use Rattle.mr_loop.proofs.host.Host.step.Goals as goal
 
@@ -29,8 +30,11 @@ returns-in_err-take-in-Ok-Done-clause-went g c =
     let stepped : Stepped s.node c.args.link given fresh c.step.new.self (Ok (step.Done outs)) = record { input = c.requires.input; row = row } in
     let why = c.in_err-take-in-Ok-Done.field-0.0 in
     let told : c.from_residual.result ≡ Err why = search rules in
-    breaks c.args.self.now.moment.turn c.take.new.self.moment.turn c.from_residual.result why told
-    (not_told (at_step c.args.socket c.args.link given fresh) s (record s { node = c.step.new.self }) t outs why (steps_at s c.args.socket c.args.link given fresh c.step.new.self outs c.requires.has c.requires.light stepped)
+    let a = c.args.self.now in
+    let takes = gives_step a.moment.time given fresh a.moment.fresh outs.used [] c.given-given.ensures c.fresh-fresh.ensures (step_takes s.node c.step.new.self c.args.link given fresh outs stepped) in
+    breaks (moment_in g.S.Source.drawn a) (moment_in g.S.Source.drawn c.take.new.self) c.from_residual.result why told
+    (not_told a.moment.time (a.moment.fresh ∷ []) takes.0 (at_step c.args.socket c.args.link given fresh c.news_of-news.result) s (record s { node = c.step.new.self }) t outs why takes.1 (ap (λ (m : MomentState). m.drawn) c.in_err-take-in-Ok-Done.ensures.kept ∙ c.word.ensures.drawn) (steps_at s c.args.socket c.args.link given fresh c.news_of-news.result c.step.new.self outs c.requires.has c.requires.light stepped
+    (news_at s.node c.step.new.self c.args.link c.place-place.result c.role.result outs _ c.news_of-news.result c.place-place.ensures c.role.ensures c.in-Ok-Done.outs-is c.news_of-news.ensures))
     (subst (λ (o : OutsState). CarriesAs (Err why) (outs_of o) (record s { node = c.step.new.self }) t) c.in-Ok-Done.outs-is c.in_err-take-in-Ok-Done.ensures.carried))
 
 pub returns-in_ok-take-in-Ok-Done-clause-went : goal.returns-in_ok-take-in-Ok-Done-clause-went
@@ -42,10 +46,15 @@ returns-in_ok-take-in-Ok-Done-clause-went g c =
     let outs = c.in-Ok-Done.outs in
     let row = subst (λ r. Steps s.node c.args.link given fresh c.step.new.self r) (ap Ok c.in-Ok-Done.field-0-is) c.in-Ok-Done.ensures in
     let stepped : Stepped s.node c.args.link given fresh c.step.new.self (Ok (step.Done outs)) = record { input = c.requires.input; row = row } in
-    steps_once s t c.args.socket c.args.link given fresh c.step.new.self outs c.args.self.now.moment.turn c.count_step.new.self.turn c.count_use.new.self.turn c.take.new.self.moment.turn
-    (steps_at s c.args.socket c.args.link given fresh c.step.new.self outs c.requires.has c.requires.light stepped)
-    (subst (λ (o : OutsState). Carried (outs_of o) (record s { node = c.step.new.self }) t) c.in-Ok-Done.outs-is c.in_ok-take-in-Ok-Done.ensures.carried) c.count_step.ensures.turn c.count_use.ensures.turn
-    (c.in_ok-take-in-Ok-Done.ensures.turn ∙ ap (λ (o : OutsState). taken o.used c.count_use.new.self.turn) c.in-Ok-Done.outs-is)
+    let old = moment_in g.S.Source.drawn c.args.self.now in
+    let new = moment_in g.S.Source.drawn c.take.new.self in
+    let mid : MomentState = record { time = c.hear.new.self.time; fresh = c.hear.new.self.fresh; drawn = g.S.Source.drawn c.word.new.self; turn = c.hear.new.self.turn } in
+    let still = counted_only old mid (c.hear.ensures.time ∙ (c.count_use.ensures.time ∙ c.count_step.ensures.time)) (c.hear.ensures.fresh ∙ (c.count_use.ensures.fresh ∙ c.count_step.ensures.fresh)) c.word.ensures.drawn in
+    steps_once s t c.args.socket c.args.link given fresh c.news_of-news.result c.step.new.self outs old mid new c.count_step.new.self.turn c.count_use.new.self.turn
+    (steps_at s c.args.socket c.args.link given fresh c.news_of-news.result c.step.new.self outs c.requires.has c.requires.light stepped
+    (news_at s.node c.step.new.self c.args.link c.place-place.result c.role.result outs _ c.news_of-news.result c.place-place.ensures c.role.ensures c.in-Ok-Done.outs-is c.news_of-news.ensures))
+    (subst (λ (o : OutsState). Carried (outs_of o) (record s { node = c.step.new.self }) t) c.in-Ok-Done.outs-is c.in_ok-take-in-Ok-Done.ensures.carried) c.given-given.ensures c.fresh-fresh.ensures still c.count_step.ensures.turn c.count_use.ensures.turn c.hear.ensures.turn
+    (subst (λ (o : OutsState). Renewed o.used mid new) c.in-Ok-Done.outs-is c.in_ok-take-in-Ok-Done.ensures.moment)
 
 pub returns-in_ok-take-in-Ok-Done-clause-quiet : goal.returns-in_ok-take-in-Ok-Done-clause-quiet
 returns-in_ok-take-in-Ok-Done-clause-quiet g c = λ q.
@@ -84,8 +93,11 @@ returns-in-Ok-Idle-clause-went g c =
     let given = c.given-given.result in
     let fresh = c.fresh-fresh.result in
     let row = subst (λ r. Steps a c.args.link given fresh c.step.new.self r) (ap Ok c.in-Ok-Idle.field-0-is) c.in-Ok-Idle.ensures in
-    counts_call (idles c.args.socket c.args.link given fresh) c.args.self.now.moment.turn c.count_step.new.self.turn c.count_step.new.self.turn refl refl refl refl refl refl
-    (record { has = c.requires.has; node = record { input = c.requires.input; row = row }; same = refl }) c.count_step.ensures.turn refl
+    let old = moment_in g.S.Source.drawn c.args.self.now in
+    let new : MomentState = record { time = c.count_step.new.self.time; fresh = c.count_step.new.self.fresh; drawn = g.S.Source.drawn c.word.new.self; turn = c.count_step.new.self.turn } in
+    counts_call (idles c.args.socket c.args.link given fresh) old new c.count_step.new.self.turn refl refl refl refl refl refl refl
+    (record { has = c.requires.has; node = record { input = c.requires.input; row = row }; same = refl }) (given_none old.time given fresh old.fresh c.given-given.ensures c.fresh-fresh.ensures) c.count_step.ensures.turn
+    (counted_only old new c.count_step.ensures.time c.count_step.ensures.fresh c.word.ensures.drawn)
 
 pub returns-in-Ok-Idle-clause-quiet : goal.returns-in-Ok-Idle-clause-quiet
 returns-in-Ok-Idle-clause-quiet g c = λ q.
@@ -118,8 +130,9 @@ returns-in-Err-Stopped-clause-went g c =
     let given = c.given-given.result in
     let fresh = c.fresh-fresh.result in
     let row = subst (λ r. Steps a c.args.link given fresh c.step.new.self r) (ap Err c.in-Err-Stopped.field-0-is) c.in-Err-Stopped.ensures in
-    let why : Stopping a c.step.new.self = stops_at c.args.link given fresh (record { input = c.requires.input; row = row }) in
-    broke_one stops refl (record { why = why; own = refl; wire = refl; failed = refl; file = (refl, refl) })
+    let old = moment_in g.S.Source.drawn c.args.self.now in
+    broke_one (stops (stops_at_step c.args.link given fresh)) (old.fresh ∷ []) refl (given_none old.time given fresh old.fresh c.given-given.ensures c.fresh-fresh.ensures) c.word.ensures.drawn
+    (record { why = record { input = c.requires.input; row = row }; own = refl; wire = refl; failed = refl; file = (refl, refl) })
 
 pub returns-in-Err : goal.returns-in-Err
 returns-in-Err g c =
@@ -129,9 +142,12 @@ returns-in-Err g c =
     let other : c.in-Err._refused ≡ refusal.Stopped → ⊥ = search rules in
     let memory = lacks_memory a c.step.new.self c.args.link given fresh c.in-Err._refused c.requires.input other c.in-Err.ensures in
     let row = subst (λ e. Steps a c.args.link given fresh c.step.new.self (Err e)) memory c.in-Err.ensures in
+    let old = moment_in g.S.Source.drawn c.args.self.now in
+    let mid : MomentState = record { time = c.count_step.new.self.time; fresh = c.count_step.new.self.fresh; drawn = g.S.Source.drawn c.word.new.self; turn = c.count_step.new.self.turn } in
     record {
-      went = counts_call (is_refused c.args.socket c.args.link given fresh) c.args.self.now.moment.turn c.count_step.new.self.turn c.drop_connection.new.self.moment.turn refl refl refl refl refl refl
-          (record { has = c.requires.has; node = c.step.new.self; refused = record { input = c.requires.input; row = row }; dropped = dropped_from (record (stage_in g.W.Wire.links g.W.Wire.failures g.F.LogFile.told g.F.LogFile.synced c.args.self.now) { node = c.step.new.self }) _ c.step.new.self c.lack.new.self _ refl c.lack.ensures c.drop_connection.ensures.dropped }) c.count_step.ensures.turn c.drop_connection.ensures.turn;
+      went = counts_call (is_refused c.args.socket c.args.link given fresh) old (moment_in g.S.Source.drawn c.drop_connection.new.self) c.count_step.new.self.turn refl refl refl refl refl refl refl
+          (record { has = c.requires.has; node = c.step.new.self; refused = record { input = c.requires.input; row = row }; dropped = dropped_from (record (stage_in g.W.Wire.links g.W.Wire.failures g.F.LogFile.told g.F.LogFile.synced c.args.self.now) { node = c.step.new.self }) _ c.step.new.self c.lack.new.self _ refl c.lack.ensures c.drop_connection.ensures.dropped })
+          (given_none old.time given fresh old.fresh c.given-given.ensures c.fresh-fresh.ensures) c.count_step.ensures.turn (c.drop_connection.ensures.moment ∙ counted_only old mid c.count_step.ensures.time c.count_step.ensures.fresh c.word.ensures.drawn);
       same = same_on c.args.self.now _ c.drop_connection.new.self (record { node = refl; own = refl; wire = refl; log = refl; source = refl; time = c.count_step.ensures.time; mode = refl; wait_stays = refl; clock_stays = c.word.ensures.clock }) c.drop_connection.ensures.same;
       device = λ e. cc;
       quiet = refused_all a c.step.new.self c.drop_connection.new.self.node.now c.args.link given fresh c.requires.input row c.drop_connection.ensures.dropped.node;

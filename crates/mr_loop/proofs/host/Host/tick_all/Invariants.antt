@@ -1,5 +1,5 @@
 use Rattle.mr_loop.specs.Counting.{most_ticks}
-use Rattle.mr_loop.specs.Hosts.{IsSame, stage_in}
+use Rattle.mr_loop.specs.Hosts.{IsSame, moment_in, stage_in}
 use Rattle.mr_loop.specs.Quiet.{AllWait}
 use Rattle.mr_loop.proofs.Ticks.{PassesSoFar}
 use Rattle.mr_loop.proofs.host.Host.tick_all.Given as goal
@@ -7,7 +7,7 @@ use Rattle.mr_loop.proofs.host.Host.tick_all.Given as goal
 abbrev pub invariant-loop-left : goal.invariant-loop-left
 invariant-loop-left g l =
     let on = stage_in g.W.Wire.links g.W.Wire.failures g.F.LogFile.told g.F.LogFile.synced in
-    PassesSoFar g.W.Wire.tells l.fn.self.log.now.mode l.fn.self.moment.time (most_ticks l.fn.self.moment.turn.done) l.left l.fn.self.moment.turn l.self.moment.turn (on l.fn.self) (on l.self)
+    PassesSoFar g.W.Wire.tells l.fn.self.log.now.mode (most_ticks l.fn.self.moment.turn.done) l.left (moment_in g.S.Source.drawn l.fn.self) (moment_in g.S.Source.drawn l.self) (on l.fn.self) (on l.self)
     × IsSame g.W.Wire.waited g.S.Source.clock l.fn.self l.self × (AllWait l.fn.self.node.now → AllWait l.self.node.now)
 
 abbrev pub decreases-loop-left : goal.decreases-loop-left

@@ -1,21 +1,22 @@
 use Rattle.std.proofs.Common.{◌≤◌, inr, length, refl, subst, take}
 use Rattle.mr_wire.specs.declared.wire.Moved.TheVariants as moved
 use Rattle.mr_loop.specs.Rows.{breaks, writes}
+use Rattle.mr_loop.specs.Hosts.{moment_in}
 use Rattle.mr_loop.proofs.Runs.{still_here, still_one}
 use Rattle.mr_loop.proofs.Waiting.{all_is, ended_all}
 use Rattle.mr_loop.proofs.Writes.{breaks_row, no_bytes, none_stuck, some_failed, stuck_now, writes_none, writes_row, wrote_has, wrote_less}
 use Rattle.mr_loop.proofs.host.Host.write_once.Goals as goal
 
 pub returns-in_default-clause-went : goal.returns-in_default-clause-went
-returns-in_default-clause-went g c = still_here c.args.self.now.moment.turn _
+returns-in_default-clause-went g c = still_here (moment_in g.S.Source.drawn c.args.self.now) _
 
 pub returns-then-is_empty-clause-went : goal.returns-then-is_empty-clause-went
-returns-then-is_empty-clause-went g c = still_here c.args.self.now.moment.turn _
+returns-then-is_empty-clause-went g c = still_here (moment_in g.S.Source.drawn c.args.self.now) _
 
 pub returns-then-count-gt0-clause-went : goal.returns-then-count-gt0-clause-went
 returns-then-count-gt0-clause-went g c =
-    let turn = c.args.self.now.moment.turn in let connection = c.in-Some.connection.now in let count = c.in-Bytes.count in
-    still_one (writes c.args.socket (take count connection.waiting)) turn turn refl refl refl refl refl refl
+    let moment = moment_in g.S.Source.drawn c.args.self.now in let connection = c.in-Some.connection.now in let count = c.in-Bytes.count in
+    still_one (writes c.args.socket (take count connection.waiting)) moment moment refl refl refl refl refl refl refl (λ now ids. refl)
     (writes_row c.args.socket connection (moved.Bytes count) c.waiting-2.result.now c.requires c.in-Some.ensures c.waiting-2.ensures (some_failed count) c.in-Bytes.ensures.within c.in-Bytes.ensures.written (λ e. (c.in-Bytes.ensures.absent e).1) c.write.ensures.later c.wrote.ensures refl (refl, refl)) refl
 
 pub returns-then-count-gt0-clause-wrote : goal.returns-then-count-gt0-clause-wrote
@@ -27,8 +28,8 @@ returns-then-count-gt0-clause-wrote g c = λ link has. (
 
 pub returns-else-count-gt0-clause-went : goal.returns-else-count-gt0-clause-went
 returns-else-count-gt0-clause-went g c =
-    let turn = c.args.self.now.moment.turn in let connection = c.in-Some.connection.now in let count = c.in-Bytes.count in
-    still_one (writes c.args.socket (take count connection.waiting)) turn turn refl refl refl refl refl refl
+    let moment = moment_in g.S.Source.drawn c.args.self.now in let connection = c.in-Some.connection.now in let count = c.in-Bytes.count in
+    still_one (writes c.args.socket (take count connection.waiting)) moment moment refl refl refl refl refl refl refl (λ now ids. refl)
     (writes_row c.args.socket connection (moved.Bytes count) c.waiting-2.result.now c.requires c.in-Some.ensures c.waiting-2.ensures (some_failed count) c.in-Bytes.ensures.within c.in-Bytes.ensures.written (λ e. (c.in-Bytes.ensures.absent e).1) c.write.ensures.later c.wrote.ensures refl (refl, refl)) refl
 
 pub returns-else-count-gt0-clause-wrote : goal.returns-else-count-gt0-clause-wrote
@@ -43,8 +44,8 @@ returns-else-count-gt0-clause-wrote g c = λ link has. (
 
 pub returns-in-NotReady-clause-went : goal.returns-in-NotReady-clause-went
 returns-in-NotReady-clause-went g c =
-    let turn = c.args.self.now.moment.turn in let connection = c.in-Some.connection.now in
-    still_one (writes c.args.socket (take 0 connection.waiting)) turn turn refl refl refl refl refl refl
+    let moment = moment_in g.S.Source.drawn c.args.self.now in let connection = c.in-Some.connection.now in
+    still_one (writes c.args.socket (take 0 connection.waiting)) moment moment refl refl refl refl refl refl refl (λ now ids. refl)
     (writes_none c.args.socket connection c.write.result c.waiting-2.result.now c.in-NotReady.is c.requires c.in-Some.ensures c.waiting-2.ensures c.write.ensures.within c.write.ensures.written (λ e. (c.write.ensures.absent e).1) c.write.ensures.later c.wrote-in-NotReady.ensures refl (refl, refl)) refl
 
 pub returns-in-NotReady-clause-wrote : goal.returns-in-NotReady-clause-wrote
@@ -58,8 +59,8 @@ returns-in-NotReady-clause-wrote g c = λ link has. (
 
 pub returns-in-Failed-clause-went : goal.returns-in-Failed-clause-went
 returns-in-Failed-clause-went g c =
-    still_one (breaks c.args.socket) c.args.self.now.moment.turn c.drop_connection.new.self.moment.turn refl refl refl refl refl refl
-    (breaks_row c.args.socket c.in-Some.connection.now c.link-link.result c.waiting-2.result.now (g.W.Wire.links c.write.new.self) (g.W.Wire.failures c.write.new.self) c.requires c.in-Some.ensures c.link-link.ensures c.waiting-2.ensures c.in-Failed.ensures.written (λ e. (c.write.ensures.absent e).1) (c.in-Failed.ensures.cause refl) c.drop_connection.ensures.dropped) c.drop_connection.ensures.turn
+    still_one (breaks c.args.socket) (moment_in g.S.Source.drawn c.args.self.now) (moment_in g.S.Source.drawn c.drop_connection.new.self) refl refl refl refl refl refl refl (λ now ids. refl)
+    (breaks_row c.args.socket c.in-Some.connection.now c.link-link.result c.waiting-2.result.now (g.W.Wire.links c.write.new.self) (g.W.Wire.failures c.write.new.self) c.requires c.in-Some.ensures c.link-link.ensures c.waiting-2.ensures c.in-Failed.ensures.written (λ e. (c.write.ensures.absent e).1) (c.in-Failed.ensures.cause refl) c.drop_connection.ensures.dropped) c.drop_connection.ensures.moment
 
 pub returns-in-Failed-clause-quiet : goal.returns-in-Failed-clause-quiet
 returns-in-Failed-clause-quiet g c = λ q. all_is c.drop_connection.ensures.dropped.node (ended_all c.link-link.result c.args.self.now.node.now q)

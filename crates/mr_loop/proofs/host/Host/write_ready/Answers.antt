@@ -5,7 +5,7 @@ use Rattle.mr_loop.proofs.Same.{same_on}
 use Rattle.mr_loop.proofs.host.Host.write_ready.Goals as goal
 
 pub loop-init : goal.loop-init
-loop-init g c = writes_first g.W.Wire.tells g.W.Wire.links g.W.Wire.failures g.W.Wire.waited g.F.LogFile.told g.F.LogFile.synced g.S.Source.clock c.args.socket c.args.link c.args.self.now c.requires.filed c.requires.has
+loop-init g c = writes_first g.W.Wire.tells g.W.Wire.links g.W.Wire.failures g.W.Wire.waited g.F.LogFile.told g.F.LogFile.synced g.S.Source.drawn g.S.Source.clock c.args.socket c.args.link c.args.self.now c.requires.filed c.requires.has
 
 pub write_once-requires : goal.write_once-requires
 write_once-requires g c = c.loop.invariant.batch
@@ -16,8 +16,8 @@ returns-in-Nothing-clause-went g c = still_then c.loop.invariant.same.mode c.loo
 pub returns-in-Nothing-clause-same : goal.returns-in-Nothing-clause-same
 returns-in-Nothing-clause-same g c = same_on c.args.self.now c.loop.self c.write_once.new.self c.loop.invariant.same c.write_once.ensures.same
 
-pub returns-in-Nothing-clause-turn : goal.returns-in-Nothing-clause-turn
-returns-in-Nothing-clause-turn g c = c.write_once.ensures.turn ∙ c.loop.invariant.turn
+pub returns-in-Nothing-clause-moment : goal.returns-in-Nothing-clause-moment
+returns-in-Nothing-clause-moment g c = c.write_once.ensures.moment ∙ c.loop.invariant.moment
 
 pub returns-in-Nothing-clause-there : goal.returns-in-Nothing-clause-there
 returns-in-Nothing-clause-there g c = λ there. let wrote = c.in-Nothing.ensures.wrote c.args.link c.loop.invariant.has in (wrote.0 ∙ c.loop.invariant.node, wrote.1)
@@ -28,8 +28,8 @@ returns-in-Gone-clause-went g c = still_then c.loop.invariant.same.mode c.loop.i
 pub returns-in-Gone-clause-same : goal.returns-in-Gone-clause-same
 returns-in-Gone-clause-same g c = same_on c.args.self.now c.loop.self c.write_once.new.self c.loop.invariant.same c.write_once.ensures.same
 
-pub returns-in-Gone-clause-turn : goal.returns-in-Gone-clause-turn
-returns-in-Gone-clause-turn g c = c.write_once.ensures.turn ∙ c.loop.invariant.turn
+pub returns-in-Gone-clause-moment : goal.returns-in-Gone-clause-moment
+returns-in-Gone-clause-moment g c = c.write_once.ensures.moment ∙ c.loop.invariant.moment
 
 pub returns-in-Gone-clause-gone : goal.returns-in-Gone-clause-gone
 returns-in-Gone-clause-gone g c = λ gone. c.in-Gone.ensures.wrote c.args.link c.loop.invariant.has ∙ ap (closed_at c.args.link) c.loop.invariant.node
@@ -37,11 +37,11 @@ returns-in-Gone-clause-gone g c = λ gone. c.in-Gone.ensures.wrote c.args.link c
 pub loop-preserved : goal.loop-preserved
 loop-preserved g c =
     let wrote = c.in-Some.ensures.wrote c.args.link c.loop.invariant.has in
-    writes_on g.W.Wire.tells g.W.Wire.links g.W.Wire.failures g.W.Wire.waited g.F.LogFile.told g.F.LogFile.synced g.S.Source.clock c.args.socket c.args.link c.args.self.now c.loop.self c.write_once.new.self c.loop.invariant (record {
+    writes_on g.W.Wire.tells g.W.Wire.links g.W.Wire.failures g.W.Wire.waited g.F.LogFile.told g.F.LogFile.synced g.S.Source.drawn g.S.Source.clock c.args.socket c.args.link c.args.self.now c.loop.self c.write_once.new.self c.loop.invariant (record {
       went = c.write_once.ensures.went;
       same = c.write_once.ensures.same;
       batch = c.write_once.ensures.batch;
-      turn = c.write_once.ensures.turn;
+      moment = c.write_once.ensures.moment;
       node = wrote.0;
       has = wrote.1;
     })

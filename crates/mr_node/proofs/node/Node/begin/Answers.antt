@@ -1,7 +1,7 @@
 use Rattle.std.proofs.Common.{◌≡◌, ◌++◌, ap, drop, refl, subst, sym, ◌∙◌}
 use Rattle.mr_resp.specs.Replies.{Tree, reply_text}
 use Rattle.mr_resp.specs.ReplyView.{view}
-use Rattle.mr_planning.specs.Answered.{done}
+use Rattle.mr_room.specs.Answered.{done}
 use Rattle.mr_ends.specs.State.{begun, put_end}
 use Rattle.mr_ends.specs.State.EndState.{waiting}
 use Rattle.mr_outs.specs.Outs.{OutsState}

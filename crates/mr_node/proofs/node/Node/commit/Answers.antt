@@ -8,7 +8,7 @@ use Rattle.mr_rows.specs.ClientRows.{ClientRow}
 use Rattle.mr_rows.specs.Growing.{FedTo}
 use Rattle.mr_state.specs.Parts.{Commits, Leads, Spends}
 use Rattle.mr_node.specs.Parts.{FeedsAll}
-use Rattle.mr_node.proofs.Results.{on_err_is, on_ok_is}
+use Rattle.mr_node.proofs.Results.{is_no_ok, on_err_is, on_ok_is}
 use Rattle.mr_node.proofs.Rows.{lacks_words, stops_of, within_row}
 use Rattle.mr_node.proofs.node.Node.commit.Goals as goal
 
@@ -22,7 +22,8 @@ pub returns-then-is_err-2 : goal.returns-then-is_err-2
 returns-then-is_err-2 c = λ u given fresh at r.
     let spends : Spends c.self.inside.state c.args.plan.effects.items c.commit.new.self = on_err_is c.commit.result _ (sym c.is_err-2.ensures.value ∙ c.if-is_err-2.true) c.commit.ensures.spent in
     record {
-      cause = stops_of c.args.self.now u given c.args.used c.args.plan r c.requires.within spends.some;
+      cause = stops_of c.args.self.now u given c.args.used c.args.plan r c.requires.within
+          (λ light. is_no_ok c.commit.result (sym c.is_err-2.ensures.value ∙ c.if-is_err-2.true) (c.commit.ensures.light light));
       held = spends.held;
       spent = spends.node ∙ ap (λ (s : NodeState). spent_as spends.held s) c.self.view_is;
     }

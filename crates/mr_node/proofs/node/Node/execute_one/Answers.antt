@@ -2,11 +2,11 @@ use Rattle.std.proofs.Common.{◌≡◌, ◌≤◌, ◌∙◌, All, ap, arith, I
 use Rattle.std.specs.Cow.{cow_slice_items}
 use Rattle.std.specs.List.{list_all}
 use Rattle.std.proofs.lemmas.List.{length-map}
-use Rattle.mr_value.specs.Words.{fits}
+use Rattle.mr_bytes.specs.Words.{fits}
 use Rattle.mr_resp.specs.ReplyView.{view}
 use Rattle.mr_resp.specs.Usual.{commands-words, usual-word, usual-words}
 use Rattle.mr_resp.specs.declared.request.Scan.TheVariants.{Whole}
-use Rattle.mr_plan.specs.Requests.{HasPlan, IsPlain, left}
+use Rattle.mr_commands.specs.Requests.{HasPlan, IsPlain, left}
 use Rattle.mr_rows.specs.State.{NodeState}
 use Rattle.mr_node.specs.Executing.{IsTold}
 use Rattle.mr_node.proofs.Executing.{says_so, told_one}

@@ -5,12 +5,12 @@ use Rattle.mr_resp.specs.ReplyView.{view}
 use Rattle.mr_effect.specs.Spelling.{texts}
 use Rattle.mr_groups.specs.Groups.{frame_for}
 use Rattle.mr_outs.specs.Outs.{OutsState}
-use Rattle.mr_plan.specs.Transactions.{past_limit}
+use Rattle.mr_commands.specs.Transactions.{past_limit}
 use Rattle.mr_rows.specs.State.{NodeState}
 use Rattle.mr_state.specs.Parts.{Holds, Leads, Spends}
 use Rattle.mr_node.specs.Executing.{SaysOnly}
 use Rattle.mr_node.proofs.Executing.{did_some, have_no_room, have_room, passing, plain_reply, says_so, spent_by}
-use Rattle.mr_node.proofs.Results.{on_err_is, on_ok_is}
+use Rattle.mr_node.proofs.Results.{is_no_ok, on_err_is, on_ok_is}
 use Rattle.mr_state.proofs.Changes.{none_there}
 use Rattle.mr_node.proofs.node.Node.execute_plan.Goals as goal
 
@@ -75,6 +75,7 @@ returns-then-is_err-2 c = λ a given words before m plain plan d is.
     let within : length c.args.outs.now.grown + length (texts es) ≤ (4611686018427387904 - c.end-room.result) - frame = search rules in
     let spends : Spends c.self.inside.state es c.apply.new.self = on_err_is c.apply.result _ (sym c.is_err-2.ensures.value ∙ c.if-is_err-2.true) c.apply.ensures.spent in
     spent_by a given words before m c.args.self.now c.args.outs.now d (view c.args.plan.reply) es plain plan (have_room a before es frame framed (omega (arith, offset, window, room, put, within))) c.apply.new.self
+    (λ light. is_no_ok c.apply.result (sym c.is_err-2.ensures.value ∙ c.if-is_err-2.true) (c.apply.ensures.light light))
     (subst (λ (s : NodeState). Spends s es c.apply.new.self) c.self.view_is spends)
 
 pub returns : goal.returns

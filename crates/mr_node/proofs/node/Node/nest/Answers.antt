@@ -2,7 +2,7 @@ use Rattle.std.proofs.Common.{◌≡◌, ◌++◌, ap, refl, subst, sym, ◌∙�
 use Rattle.mr_resp.specs.Replies.{Tree, reply_text}
 use Rattle.mr_resp.specs.ReplyView.{view}
 use Rattle.mr_outs.specs.Outs.{OutsState}
-use Rattle.mr_plan.specs.Transactions.{nested}
+use Rattle.mr_commands.specs.Transactions.{nested}
 use Rattle.mr_rows.specs.Transactions.{WithinRow, only_says}
 use Rattle.mr_node.proofs.Ends.{open_ahead}
 use Rattle.mr_node.proofs.Results.{on_ok_is}

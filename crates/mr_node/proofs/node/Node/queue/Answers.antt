@@ -5,7 +5,7 @@ use Rattle.mr_ends.specs.Parts.{HasOpen}
 use Rattle.mr_ends.specs.State.{put_end, with_text}
 use Rattle.mr_ends.specs.State.EndState.{waiting}
 use Rattle.mr_outs.specs.Outs.{OutsState}
-use Rattle.mr_plan.specs.Transactions.{queued}
+use Rattle.mr_commands.specs.Transactions.{queued}
 use Rattle.mr_rows.specs.State.{NodeState, end_of}
 use Rattle.mr_rows.specs.Transactions.{WithinRow, only_says}
 use Rattle.mr_state.specs.Parts.{with_ends}

@@ -1,6 +1,6 @@
 use Rattle.std.proofs.Common.{◌≡◌, ap, refl, Some, subst, sym, ◌∙◌}
 use Rattle.mr_resp.specs.Replies.{reply_text}
-use Rattle.mr_planning.specs.Answered.{done}
+use Rattle.mr_room.specs.Answered.{done}
 use Rattle.mr_course.specs.State.{name_of}
 use Rattle.mr_outs.specs.Outs.{OutsState, no_outs}
 use Rattle.mr_rows.specs.State.{NodeState}

@@ -10,4 +10,4 @@ invariant_of-self g c =
     let x = c.args.item in
     let within = subst (λ l. c.args.at < length l) (sym c.self.view_is) c.requires.within in
     let equal = subst (λ l. R x (get_or l c.args.at x) ≡ Equal) (sym c.self.view_is) c.requires.equal in
-    subst (IsStrictlySortedBy R) (sym c.set.ensures) (sorted_set R g.met.T.Ord.total x c.self.inside.places c.args.at c.self.invariant within equal)
+    subst (IsStrictlySortedBy R) (sym c.set.ensures.set) (sorted_set R g.met.T.Ord.total x c.self.inside.places c.args.at c.self.invariant within equal)

@@ -2,7 +2,7 @@ use Rattle.std.proofs.Common.{◌≡◌, ℕ, List, map, option_map, IfOk, Globa
 use Rattle.std.specs.Cow.{cow_slice_items}
 use Rattle.std.specs.declared.borrow.CowSlice.{CowSlice}
 use Rattle.mr_inline.specs.Scans.{ReadsLine}
-use Rattle.mr_script.specs.Lines.{line_limit}
+use Rattle.mr_inline.specs.Limits.{line_limit}
 use Rattle.mr_script.specs.Reading.{said_by, said_of}
 use Rattle.mr_script.proofs.LineKinds.{no_more, no_rest, not_doomed, whole_read}
 use Rattle.mr_script.proofs.line.Line.read.Goals as goal

@@ -26,8 +26,8 @@ invariant_of-self-in-Some c =
     let out : map stored c.take_out-taken.new.pairs ≡ filter (is_other (member, c.args.before)) (map stored c.put_in.new.pairs) = first_of (search rules, grind (arith, common_steps)) in
     let named = ap (λ (p : List ℕ × ℤ). p.0) c.in-Some.ensures.answer in
     AreStored-moved c.self.inside.scores c.self.inside.pairs c.self.invariant member copy c.args.score c.put_in.new.pairs c.in_ok-member_copy.ensures put
-    c.args.before c.args.score c.set.new.self c.take_out-taken.new.pairs there apart c.requires.score
-    (c.set.ensures ∙ ap (λ (z : ℤ). insert c.self.inside.scores c.in-Some.entry.member z) (to_z-of_z w64 c.args.score c.ranges.score) ∙ ap (λ (x : List ℕ). insert c.self.inside.scores x c.args.score) named) refl out
+    c.args.before c.args.score c.replace.new.self c.take_out-taken.new.pairs there apart c.requires.score
+    (c.replace.ensures.replaced ∙ ap (λ (z : ℤ). insert c.self.inside.scores c.in-Some.entry.member z) (to_z-of_z w64 c.args.score c.ranges.score) ∙ ap (λ (x : List ℕ). insert c.self.inside.scores x c.args.score) named) refl out
 
 pub unreachable-requires : goal.unreachable-requires
 unreachable-requires c =

@@ -1,7 +1,7 @@
 use Rattle.std.proofs.Common.{◌≡◌, map, drop}
 use Rattle.std.specs.Cow.{cow_slice_items}
-use Rattle.mr_words.specs.Options.{added}
-use Rattle.mr_words.specs.Parts.{with}
+use Rattle.mr_arguments.specs.Options.{added}
+use Rattle.mr_arguments.specs.Parts.{with}
 use Rattle.mr_zset_options.specs.AddOptions.{add_word, add_options, agreeing}
 use Rattle.mr_zset_options.proofs.add_options.AddOptions.read.Given as goal
 

@@ -1,0 +1,4 @@
+pub mod Numbers
+pub mod Windows
+pub mod Places
+pub mod Texts

@@ -1,0 +1,4 @@
+pub mod Number
+pub mod Texts
+pub mod Window
+pub mod Words

@@ -1,5 +1,0 @@
-use Rattle.mr_cmd_set.proofs.Tells.{tells_plans}
-use Rattle.mr_cmd_set.proofs.planning.sismember.Goals as goal
-
-pub returns-clause-reply : goal.returns-clause-reply
-returns-clause-reply c = tells_plans _ _ _ _ _ _ _ _ c.in_ok-live_entry.ensures.live_entry c.in_ok-live_entry.ensures.expired c.sismember.ensures

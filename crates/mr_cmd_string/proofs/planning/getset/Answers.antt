@@ -1,6 +1,0 @@
-use Rattle.mr_planning.proofs.PlanLemmas.{on_key_plans_if_ok}
-use Rattle.mr_cmd_string.specs.Setting.{getset_answer}
-use Rattle.mr_cmd_string.proofs.planning.getset.Goals as goal
-
-pub returns : goal.returns
-returns c = on_key_plans_if_ok _ c.args.key.now (getset_answer c.args.key.now c.args.value.now) _ _ _ _ _ _ c.in_ok-live_entry.ensures.live_entry c.in_ok-live_entry.ensures.expired c.getset.ensures

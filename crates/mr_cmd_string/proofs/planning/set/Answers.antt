@@ -1,6 +1,0 @@
-use Rattle.mr_planning.proofs.PlanLemmas.{on_key_plans_if_ok}
-use Rattle.mr_cmd_string.specs.Setting.{set_answer}
-use Rattle.mr_cmd_string.proofs.planning.set.Goals as goal
-
-pub returns : goal.returns
-returns c = on_key_plans_if_ok _ c.args.key.now (set_answer c.args.key.now c.args.value.now c.args.rules.condition c.args.rules.reply c.args.rules.deadline) _ _ _ _ _ _ c.in_ok-live_entry.ensures.live_entry c.in_ok-live_entry.ensures.expired c.set.ensures

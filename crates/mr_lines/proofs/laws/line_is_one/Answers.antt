@@ -1,5 +1,0 @@
-use Rattle.mr_lines.proofs.Apart.{one_answer}
-use Rattle.mr_lines.proofs.laws.line_is_one.Goals as goal
-
-pub returns : goal.returns
-returns c = one_answer

@@ -1,5 +1,0 @@
-use Rattle.mr_plan.proofs.Silence.{others_are_silent}
-use Rattle.mr_plan.proofs.laws.others_have_no_effects.Goals as goal
-
-pub returns : goal.returns
-returns c = others_are_silent

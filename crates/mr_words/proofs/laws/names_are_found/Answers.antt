@@ -1,5 +1,0 @@
-use Rattle.mr_words.proofs.NameLemmas.{named_itself}
-use Rattle.mr_words.proofs.laws.names_are_found.Goals as goal
-
-pub returns : goal.returns
-returns c = named_itself
