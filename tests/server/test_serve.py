@@ -130,7 +130,7 @@ class Starting(Serving):
                 for host in closed_at:
                     with socket.socket() as client, self.assertRaises(ConnectionRefusedError):
                         client.connect((host, it.port))
-                self.assertEqual(it.told(), [*warned, it.ready[len("minired: ") : -1]])
+                self.assertEqual(it.kill().notices, [*warned, it.ready[len("minired: ") : -1]])
 
     def test_a_port_is_free_again_as_soon_as_its_server_has_ended(self):
         first = self.serve()
