@@ -16,7 +16,7 @@ fn value(alloc: Global, value: Option<&[u8]>) -> Result<Reply, AllocError>
 {
     match value {
         None => Ok(Reply::NullBulk),
-        Some(value) => Ok(Reply::Bulk(Vec::from_slice(alloc, value)?)),
+        Some(value) => Reply::bulk(alloc, value),
     }
 }
 
@@ -80,8 +80,8 @@ fn pairs(alloc: Global, hash: &Hash) -> Result<Reply, AllocError>
 {
     let mut replies = Vec::with_capacity(alloc, hash.len() * 2)?;
     for (field, value) in hash.iter() {
-        replies.push(Reply::Bulk(Vec::from_slice(alloc, field)?))?;
-        replies.push(Reply::Bulk(Vec::from_slice(alloc, value.as_slice())?))?;
+        replies.push(Reply::bulk(alloc, field)?)?;
+        replies.push(Reply::bulk(alloc, value.as_slice())?)?;
     }
     Ok(Reply::Array(replies))
 }
@@ -92,7 +92,7 @@ fn fields(alloc: Global, hash: &Hash) -> Result<Reply, AllocError>
 {
     let mut replies = Vec::with_capacity(alloc, hash.len())?;
     for field in hash.fields() {
-        replies.push(Reply::Bulk(Vec::from_slice(alloc, field)?))?;
+        replies.push(Reply::bulk(alloc, field)?)?;
     }
     Ok(Reply::Array(replies))
 }
@@ -103,7 +103,7 @@ fn values(alloc: Global, hash: &Hash) -> Result<Reply, AllocError>
 {
     let mut replies = Vec::with_capacity(alloc, hash.len())?;
     for (_, value) in hash.iter() {
-        replies.push(Reply::Bulk(Vec::from_slice(alloc, value.as_slice())?))?;
+        replies.push(Reply::bulk(alloc, value.as_slice())?)?;
     }
     Ok(Reply::Array(replies))
 }

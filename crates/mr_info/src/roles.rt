@@ -42,7 +42,7 @@ pub fn master_role(
     ensures { IfOk result (λ reply. view reply ≡ master_reply stream.now.offset replicas.now) }
 {
     let mut parts = Vec::with_capacity(alloc, 3)?;
-    parts.push(bulk(alloc, b"master")?)?;
+    parts.push(Reply::bulk(alloc, b"master")?)?;
     parts.push(offset_of(stream))?;
     parts.push(Reply::Array(replies_of(alloc, replicas)?))?;
     Ok(Reply::Array(parts))
@@ -82,10 +82,10 @@ pub fn replica_role(
     ensures { IfOk result (λ reply. view reply ≡ replica_reply stream.now.offset host.now port link) }
 {
     let mut parts = Vec::with_capacity(alloc, 5)?;
-    parts.push(bulk(alloc, b"slave")?)?;
-    parts.push(bulk(alloc, host)?)?;
+    parts.push(Reply::bulk(alloc, b"slave")?)?;
+    parts.push(Reply::bulk(alloc, host)?)?;
     parts.push(Reply::Int(i64::from(port)))?;
-    parts.push(bulk(alloc, link_word(link))?)?;
+    parts.push(Reply::bulk(alloc, link_word(link))?)?;
     parts.push(offset_of(stream))?;
     Ok(Reply::Array(parts))
 }
@@ -108,20 +108,13 @@ fn offset_of(stream: &Backlog) -> Reply
     Reply::Int(stream.end() as i64)
 }
 
-/// A word, copied, as a reply.
-fn bulk(alloc: Global, word: &[u8]) -> Result<Reply, AllocError>
-    ensures { IfOk result (λ reply. view reply ≡ bytes word.now) }
-{
-    Ok(Reply::Bulk(Vec::from_slice(alloc, word)?))
-}
-
 /// What was given, or else the other.
 fn bulk_or(alloc: Global, given: Option<&[u8]>, other: &[u8]) -> Result<Reply, AllocError>
     ensures { IfOk result (λ reply. view reply ≡ bytes (unwrap_or (option_map (λ word. word.now) given.entry) other.now)) }
 {
     match given {
-        Some(word) => bulk(alloc, word),
-        None => bulk(alloc, other),
+        Some(word) => Reply::bulk(alloc, word),
+        None => Reply::bulk(alloc, other),
     }
 }
 
@@ -130,5 +123,5 @@ fn number(alloc: Global, number: i64) -> Result<Reply, AllocError>
     ensures { IfOk result (λ reply. view reply ≡ bytes (signed_decimal number)) }
 {
     let mut buffer = Buffer::new();
-    bulk(alloc, buffer.format(number).as_bytes())
+    Reply::bulk(alloc, buffer.format(number).as_bytes())
 }

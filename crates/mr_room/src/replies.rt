@@ -43,5 +43,5 @@ pub fn count(number: usize) -> Reply
 pub fn bulk(alloc: Global, word: &[u8]) -> Result<Reply, AllocError>
     ensures { IfOk result (λ r. view r ≡ replies.bytes word.now) }
 {
-    Ok(Reply::Bulk(Vec::from_slice(alloc, word)?))
+    Reply::bulk(alloc, word)
 }
