@@ -181,6 +181,22 @@ class Strings(Answering):
         wanted = number(0) + number(1) + number(0) + number(0) + number(2) + number(2) + bulk("ab")
         self.assertEqual((ran.returncode, ran.stdout), (0, wanted))
 
+    def test_texts_of_any_length(self):
+        """Short ones lie elsewhere than long ones, and are written in fewer pieces: a text grows from the one to the other, and gives way."""
+        asked, wanted = [], []
+        for length in range(1, 130):
+            text = bytes(65 + at % 26 for at in range(length))
+            asked += [request("APPEND", "k", text[-1:]), request("GET", "k"), request("SETRANGE", "n", str(length - 1), text[-1:]), request("GET", "n")]
+            wanted += [number(length), bulk(text), number(length), bulk(text)]
+            asked += [request("SETRANGE", "k", "0", b"a"), request("GETRANGE", "k", "0", "0"), request("GETSET", "o", text), request("SETRANGE", "k", "0", b"A")]
+            wanted += [number(length), bulk("a"), NIL if length == 1 else bulk(text[:-1]), number(length)]
+            asked += [request("HSET", "h", text, text), request("HGETALL", "h"), request("RPUSH", "l", text), request("LPOP", "l"), request("DEL", "h")]
+            wanted += [number(1), array(text, text), number(1), bulk(text), number(1)]
+        asked += [request("SET", "k", "7"), request("INCRBY", "k", str(MOST - 7)), request("APPEND", "k", 5 * "8"), request("GET", "k")]
+        wanted += [OK, number(MOST), number(24), bulk(f"{MOST}88888")]
+        ran = run(b"".join(asked), "pipe")
+        self.assertEqual((ran.returncode, ran.stdout), (0, b"".join(wanted)))
+
     def test_a_text_grows_to_the_limit(self):
         most = 512 * 1024 * 1024
         asked = [request("SETRANGE", "k", str(most - 1), "x"), request("APPEND", "k", "y"), request("STRLEN", "k")]
