@@ -4,3 +4,4 @@ pub mod Removals
 pub mod Passing
 pub mod Backwards
 pub mod Uniform
+pub mod Written

@@ -1,4 +1,4 @@
--- Where the bytes lie of a byte string that is kept in an order.
+-- Where the bytes of a byte string lie.
 use Rattle.std.specs.Prelude.{ℕ, List}
 use Rattle.mr_value.specs.declared.compact_bytes.Kept.{Kept}
 use Rattle.mr_value.specs.declared.compact_bytes.Kept.TheVariants.{Short, Long}
@@ -6,4 +6,4 @@ use Rattle.mr_value.specs.declared.compact_bytes.Kept.TheVariants.{Short, Long}
 -- the bytes, wherever they lie
 abbrev pub kept_bytes : Kept → List ℕ
 kept_bytes (Short short) = short
-kept_bytes (Long bytes) = bytes.items
+kept_bytes (Long bytes) = bytes
