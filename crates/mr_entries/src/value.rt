@@ -1,12 +1,11 @@
 // Values, and entries.
-use mr_bytes::Bytes;
-use mr_value::{Hash, ListValue, SetValue};
+use mr_value::{CompactBytes, Hash, ListValue, SetValue};
 use mr_zset::ZSet;
 
 /// What a key holds.
 pub enum Value {
     /// A byte string.
-    Text(Bytes),
+    Text(CompactBytes),
     /// Values by field.
     Hash(Hash),
     /// Items in order.

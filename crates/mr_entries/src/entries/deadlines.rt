@@ -7,6 +7,7 @@ use crate::entries::Entries;
 use crate::fault::ApplyFault;
 use crate::value::{Entry, Value};
 use mr_bytes::Word;
+use mr_value::CompactBytes;
 
 impl Entries {
     /// Sets a key to a text, until a moment. A key that is there is written over in its place.
@@ -18,7 +19,7 @@ impl Entries {
     ) -> Result<(), ApplyFault>
         ensures { Applies (at_key (set_until_step text.entry deadline) key.entry self.old) self.old result self.new }
     {
-        let text = text.into_bytes(self.alloc)?;
+        let text = CompactBytes::from_word(self.alloc, text)?;
         let entry = Entry {
             value: Value::Text(text),
             deadline: Some(deadline),
@@ -30,7 +31,7 @@ impl Entries {
     pub(super) fn set_keeping(&mut self, key: Word<'_>, text: Word<'_>) -> Result<(), ApplyFault>
         ensures { Applies (at_key (set_keeping_step text.entry) key.entry self.old) self.old result self.new }
     {
-        let text = text.into_bytes(self.alloc)?;
+        let text = CompactBytes::from_word(self.alloc, text)?;
         let Some(value) = self.by_key.value_mut(key.as_slice()) else {
             return self.create(key, Value::Text(text));
         };

@@ -10,7 +10,8 @@ ghost use Rattle.mr_entries.specs.Outcome.{Applies};
 use crate::entries::Entries;
 use crate::fault::ApplyFault;
 use crate::value::Value;
-use mr_bytes::{Bytes, Word, fits, read_i64, write_i64};
+use mr_bytes::{Word, fits, read_i64};
+use mr_value::CompactBytes;
 use std::alloc::Global;
 
 impl Entries {
@@ -18,7 +19,7 @@ impl Entries {
     pub(super) fn set(&mut self, key: Word<'_>, text: Word<'_>) -> Result<(), ApplyFault>
         ensures { Applies (at_key (set_step text.entry) key.entry self.old) self.old result self.new }
     {
-        let text = text.into_bytes(self.alloc)?;
+        let text = CompactBytes::from_word(self.alloc, text)?;
         self.create(key, Value::Text(text))
     }
 
@@ -35,17 +36,18 @@ impl Entries {
     pub(super) fn append(&mut self, key: Word<'_>, more: Word<'_>) -> Result<(), ApplyFault>
         ensures { Applies (at_key (append_step more.entry) key.entry self.old) self.old result self.new }
     {
+        let alloc = self.alloc;
         let Some(value) = self.by_key.value_mut(key.as_slice()) else {
             if !fits(more.as_slice()) {
                 return Err(ApplyFault::Refused);
             }
-            let text = more.into_bytes(self.alloc)?;
+            let text = CompactBytes::from_word(alloc, more)?;
             return self.create(key, Value::Text(text));
         };
         let Value::Text(text) = value else {
             return Err(ApplyFault::Refused);
         };
-        extend(text, more.as_slice())
+        extend(alloc, text, more.as_slice())
     }
 
     /// Writes a part over the text at a key, from an offset on.
@@ -88,15 +90,16 @@ impl Entries {
     fn write_range(&mut self, key: Word<'_>, offset: usize, part: &[u8]) -> Result<(), ApplyFault>
         ensures { Applies (at_key (on (texts []) (λ text. fitting (overwritten offset part.now text))) key.entry self.old) self.old result self.new }
     {
+        let alloc = self.alloc;
         let Some(value) = self.by_key.value_mut(key.as_slice()) else {
-            let mut text = Bytes::from_vec(Vec::new(self.alloc));
-            overwrite(&mut text, offset, part)?;
+            let mut text = CompactBytes::new();
+            overwrite(alloc, &mut text, offset, part)?;
             return self.create(key, Value::Text(text));
         };
         let Value::Text(text) = value else {
             return Err(ApplyFault::Refused);
         };
-        overwrite(text, offset, part)
+        overwrite(alloc, text, offset, part)
     }
 
     /// Makes the number greater that the text at a key spells.
@@ -127,7 +130,7 @@ fn is_text(value: &Value) -> bool
 }
 
 /// Puts more behind a text. Refused, with no change, where that is longer than the limit.
-fn extend(text: &mut Bytes, more: &[u8]) -> Result<(), ApplyFault>
+fn extend(alloc: Global, text: &mut CompactBytes, more: &[u8]) -> Result<(), ApplyFault>
     ensures ok { OnOk result (fitting (text.old ++ more.now) ≡ Some text.new) }
     ensures refused { (result ≡ Err ApplyFault.Refused) ↔ (fitting (text.old ++ more.now) ≡ None) }
     ensures unchanged { result ≡ Err ApplyFault.Refused → text.new ≡ text.old }
@@ -135,12 +138,17 @@ fn extend(text: &mut Bytes, more: &[u8]) -> Result<(), ApplyFault>
     if !text.fits_with(more) {
         return Err(ApplyFault::Refused);
     }
-    text.extend_from_slice(more)?;
+    text.extend_from_slice(alloc, more)?;
     Ok(())
 }
 
 /// Writes a part over a text from an offset on. Refused, with no change, where that is longer than the limit.
-fn overwrite(text: &mut Bytes, offset: usize, part: &[u8]) -> Result<(), ApplyFault>
+fn overwrite(
+    alloc: Global,
+    text: &mut CompactBytes,
+    offset: usize,
+    part: &[u8],
+) -> Result<(), ApplyFault>
     ensures ok { OnOk result (fitting (overwritten offset part.now text.old) ≡ Some text.new) }
     ensures refused { (result ≡ Err ApplyFault.Refused) ↔ (fitting (overwritten offset part.now text.old) ≡ None) }
     ensures unchanged { result ≡ Err ApplyFault.Refused → text.new ≡ text.old }
@@ -148,20 +156,20 @@ fn overwrite(text: &mut Bytes, offset: usize, part: &[u8]) -> Result<(), ApplyFa
     if !text.fits_overwritten(offset, part) {
         return Err(ApplyFault::Refused);
     }
-    text.overwrite(offset, part)?;
+    text.overwrite(alloc, offset, part)?;
     Ok(())
 }
 
 /// The text of the number that a text spells, and this much, together. Refused where it spells none, or the sum has no
 /// 64 bits.
-fn increased(alloc: Global, by: i64, text: &[u8]) -> Result<Bytes, ApplyFault>
+fn increased(alloc: Global, by: i64, text: &[u8]) -> Result<CompactBytes, ApplyFault>
     ensures ok { IfOk result (λ sum. increased by text.now ≡ Some sum) }
     ensures refused { (result ≡ Err ApplyFault.Refused) ↔ (increased by text.now ≡ None) }
 {
     let Some(sum) = sum_with(by, text) else {
         return Err(ApplyFault::Refused);
     };
-    let text = write_i64(alloc, sum)?;
+    let text = CompactBytes::from_i64(alloc, sum)?;
     Ok(text)
 }
 
