@@ -216,9 +216,11 @@ class Deaf(Serving):
         closed = size == LARGE
         if closed:
             self.assertEqual(deaf.rest(), b"")
+            # it is told once the turn has ended, and here nobody else is answered
+            time.sleep(0.5)
         else:
             self.comes(lambda: self.bytes().endswith(request("RPUSH", "l", "x")))
-        self.assertEqual(deaf_clients(it.told()), [1] if closed else [])
+        self.assertEqual(deaf_clients(it.kill().notices), [1] if closed else [])
         return self.bytes()[-len(request("RPUSH", "l", "x")) :]
 
     def test_it_is_closed_in_place_of_its_next_step(self):
