@@ -12,6 +12,7 @@ pub mod Pushing
 pub mod AnswerLemmas
 pub mod Adds
 pub mod Removals
+pub mod ByteOrder
 pub mod Wholes
 pub mod Firsts
 pub mod RangeLemmas

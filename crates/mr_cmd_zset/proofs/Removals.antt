@@ -3,11 +3,12 @@ use Rattle.std.proofs.Common.{ℕ, zero, suc, ℤ, ◌≡◌, ◌+◌, ◌-◌, 
 use Rattle.std.proofs.lemmas.Grind.{reverse_onto}
 use Rattle.std.proofs.lemmas.Int.{to_z-of_z}
 use Rattle.std.specs.Prelude.{◌||◌, ◌≢◌, is_some, filter, if◌then◌else◌, MatchOption, option_map, slice_get}
+use Rattle.std.specs.Borrow.{Bor}
 use Rattle.std.specs.List.{AllByRecursion}
 use Rattle.std.specs.Ordering.{is_lt}
 use Rattle.std.specs.FinMap.{get, empty, insert, keys, len, entries, contains_key, retain_keys, get-empty, get-insert, len-empty, len-entries, entries-insert}
 use Rattle.std.specs.FinMap.Entries.{put}
-use Rattle.std.proofs.lemmas.List.{length-map, nil_from_length}
+use Rattle.std.proofs.lemmas.List.{length-map, map-append, nil_from_length}
 use Rattle.std.proofs.lemmas.Cmp.{nat_list_cmp_total}
 use Rattle.mr_map.specs.Bytes.{Bytes, ByteMap, bytes_cmp}
 use Rattle.mr_map.proofs.Domains.{same_keys}
@@ -26,7 +27,7 @@ use Rattle.mr_zset_options.specs.declared.choices.Order.{Order}
 use Rattle.mr_zset_options.specs.declared.choices.Order.TheVariants as order
 use Rattle.mr_zset_options.specs.declared.choices.RangeReply.TheVariants.{WithScores}
 use Rattle.mr_entries.specs.Collections.{with_members, without_scores}
-use Rattle.mr_room.specs.Taken.{is_key, has}
+use Rattle.mr_room.specs.Taken.{is_key, has, texts}
 use Rattle.mr_entries.proofs.Maps.{same_key}
 use Rattle.mr_room.proofs.KeyLists.{more_words}
 use Rattle.mr_cmd_zset.specs.Scores.{Scores, number, lost, pairs_in, reduced_to, Makes}
@@ -157,45 +158,55 @@ has_append (x ∷ xs) ys q = ap (λ b. is_key q x || b) (has_append xs ys q) ∙
     assoc true b c = refl
     assoc false b c = refl
 
-abbrev pub IsThere : ByteMap (Unit {0}) → List Bytes → Scores → Type 0
-IsThere there xs s = (q : Bytes) → contains_key there q ≡ (has xs q && is_some (get s q))
+-- these are the words that are members of the set
+abbrev pub IsThere : List (Bor Bytes) → List Bytes → Scores → Type 0
+IsThere there xs s = (q : Bytes) → has (texts there) q ≡ (has xs q && is_some (get s q))
 
-pub none_there : (there : ByteMap (Unit {0})) (s : Scores) → there ≡ empty → IsThere there [] s
-none_there there s h q = ap (λ (m : ByteMap (Unit {0})). contains_key m q) h ∙ contains_none q
+pub none_there : (there : List (Bor Bytes)) (s : Scores) → there ≡ [] → IsThere there [] s
+none_there there s h q = ap (λ (ms : List (Bor Bytes)). has (texts ms) q) h
 
 pub has_one : (xs : List Bytes) (x q : Bytes) → has (xs ++ x ∷ []) q ≡ (has xs q || is_key q x)
 has_one xs x q = has_append xs (x ∷ []) q ∙ ap (λ b. has xs q || b) (or_false (is_key q x))
 
-module _ {A : Type 0} (f : A → Bytes) (xs : List A) (i : ℕ) (x : A) (here : i < length xs) (is : x ≡ get_or xs i x) (w : Bytes) (word : w ≡ f x) (s : Scores) (there : ByteMap (Unit {0})) (before : IsThere there (map f (take i xs)) s) where
-  more : map f (take (i + 1) xs) ≡ map f (take i xs) ++ w ∷ []
+module _ {A : Type 0} (f : A → Bytes) (xs : List A) (i : ℕ) (x : A) (here : i < length xs) (is : x ≡ get_or xs i x) (m : Bor Bytes) (word : m.now ≡ f x) (s : Scores) (there : List (Bor Bytes)) (before : IsThere there (map f (take i xs)) s) where
+  more : map f (take (i + 1) xs) ≡ map f (take i xs) ++ m.now ∷ []
   more = more_words f xs i x here is ∙ ap (λ y. map f (take i xs) ++ y ∷ []) (sym word)
 
-  pub word_there : (t : ByteMap (Unit {0})) → is_some (get s w) ≡ true → t ≡ insert there w tt → IsThere t (map f (take (i + 1) xs)) s
+  has_more : (q : Bytes) → has (map f (take (i + 1) xs)) q ≡ (has (map f (take i xs)) q || is_key q m.now)
+  has_more q = ap (λ ys. has ys q) more ∙ has_one (map f (take i xs)) m.now q
+
+  pub word_there : (t : List (Bor Bytes)) → is_some (get s m.now) ≡ true → t ≡ there ++ m ∷ [] → IsThere t (map f (take (i + 1) xs)) s
   word_there t some e q =
-      ap (λ (m : ByteMap (Unit {0})). contains_key m q) e ∙ contains_insert there w q
-      ∙ ap (λ b. is_key q w || b) (before q)
-      ∙ elim (is_key q w) as (λ b. is_key q w ≡ b → (b || (has (map f (take i xs)) q && is_some (get s q))) ≡ ((has (map f (take i xs)) q || b) && is_some (get s q))) [
-        | true ↦ λ t. sym (ap (λ c. c && is_some (get s q)) (or_true (has (map f (take i xs)) q)) ∙ ap (λ (k : Bytes). is_some (get s k)) (same_key q w t) ∙ some)
-        | false ↦ λ t. ap (λ c. c && is_some (get s q)) (sym (or_false (has (map f (take i xs)) q)))
+      ap (λ (ms : List (Bor Bytes)). has (texts ms) q) e
+      ∙ ap (λ ys. has ys q) (map-append (λ (y : Bor Bytes). y.now) there (m ∷ []))
+      ∙ has_one (texts there) m.now q
+      ∙ ap (λ b. b || is_key q m.now) (before q)
+      ∙ elim (is_key q m.now) as (λ b. is_key q m.now ≡ b → ((has (map f (take i xs)) q && is_some (get s q)) || b) ≡ ((has (map f (take i xs)) q || b) && is_some (get s q))) [
+        | true ↦ λ t. or_true (has (map f (take i xs)) q && is_some (get s q)) ∙ sym (ap (λ c. c && is_some (get s q)) (or_true (has (map f (take i xs)) q)) ∙ ap (λ (k : Bytes). is_some (get s k)) (same_key q m.now t) ∙ some)
+        | false ↦ λ t. or_false (has (map f (take i xs)) q && is_some (get s q)) ∙ ap (λ c. c && is_some (get s q)) (sym (or_false (has (map f (take i xs)) q)))
       ] refl
-      ∙ ap (λ b. b && is_some (get s q)) (sym (ap (λ ys. has ys q) more ∙ has_one (map f (take i xs)) w q))
+      ∙ ap (λ b. b && is_some (get s q)) (sym (has_more q))
     where
       or_true : (b : Bool) → (b || true) ≡ true
       or_true true = refl
       or_true false = refl
 
-  pub word_absent : is_some (get s w) ≡ false → IsThere there (map f (take (i + 1) xs)) s
+  pub word_absent : is_some (get s m.now) ≡ false → IsThere there (map f (take (i + 1) xs)) s
   word_absent none q =
       before q
-      ∙ elim (is_key q w) as (λ b. is_key q w ≡ b → (has (map f (take i xs)) q && is_some (get s q)) ≡ ((has (map f (take i xs)) q || b) && is_some (get s q))) [
-        | true ↦ λ t. let no : is_some (get s q) ≡ false = ap (λ (k : Bytes). is_some (get s k)) (same_key q w t) ∙ none in ap (λ c. has (map f (take i xs)) q && c) no ∙ and_false (has (map f (take i xs)) q) ∙ sym (ap (λ c. (has (map f (take i xs)) q || true) && c) no ∙ and_false (has (map f (take i xs)) q || true))
+      ∙ elim (is_key q m.now) as (λ b. is_key q m.now ≡ b → (has (map f (take i xs)) q && is_some (get s q)) ≡ ((has (map f (take i xs)) q || b) && is_some (get s q))) [
+        | true ↦ λ t. let no : is_some (get s q) ≡ false = ap (λ (k : Bytes). is_some (get s k)) (same_key q m.now t) ∙ none in ap (λ c. has (map f (take i xs)) q && c) no ∙ and_false (has (map f (take i xs)) q) ∙ sym (ap (λ c. (has (map f (take i xs)) q || true) && c) no ∙ and_false (has (map f (take i xs)) q || true))
         | false ↦ λ t. ap (λ c. c && is_some (get s q)) (sym (or_false (has (map f (take i xs)) q)))
       ] refl
-      ∙ ap (λ b. b && is_some (get s q)) (sym (ap (λ ys. has ys q) more ∙ has_one (map f (take i xs)) w q))
+      ∙ ap (λ b. b && is_some (get s q)) (sym (has_more q))
     where
       and_false : (b : Bool) → b && false ≡ false
       and_false true = refl
       and_false false = refl
+
+-- .. in byte order, each once
+pub there_lost : (there : List (Bor Bytes)) (xs : List Bytes) (s : Scores) → IsThere there xs s → keys (as_set (texts there)) ≡ lost s (without_scores xs s)
+there_lost there xs s h = those_lost (as_set (texts there)) xs s (λ q. contains_as_set (texts there) q ∙ h q)
 
 -- ---- pairs of a set are there
 abbrev pub AreIn : Scores → List (Bytes × ℤ) → Type 0
@@ -268,16 +279,16 @@ module _ (s : Scores) where
       there false c h = refl
 
 -- ---- what is made of a set
-pub reduced_made : (k : Bytes) (xs : List Bytes) (s : Scores) (there : ByteMap (Unit {0})) (r : Tree) (n : ℕ) (old new : List Effect) → keys there ≡ lost s (without_scores xs s) → r ≡ number n → n ≡ len there → new ≡ old ++ map (effect.RemoveScores k) (cut (keys there)) → Makes (remove_all k xs s) r old new
+pub reduced_made : (k : Bytes) (xs : List Bytes) (s : Scores) (there : List Bytes) (r : Tree) (n : ℕ) (old new : List Effect) → there ≡ lost s (without_scores xs s) → r ≡ number n → n ≡ length there → new ≡ old ++ map (effect.RemoveScores k) (cut there) → Makes (remove_all k xs s) r old new
 reduced_made k xs s there r n old new same replied count put = record {
-  reply_is = replied ∙ ap number (count ∙ len_keys there ∙ ap length same);
+  reply_is = replied ∙ ap number (count ∙ ap length same);
   effects_are = put ∙ ap (λ ks. old ++ map (effect.RemoveScores k) (cut ks)) same;
 }
 
 pub pairs_made : (k : Bytes) (ps qs : List (Bytes × ℤ)) (s : Scores) (r : Tree) (old new : List Effect) → qs ≡ ps → AreIn s ps → r ≡ number (len (as_set (members_of qs))) → new ≡ old ++ map (effect.RemoveScores k) (cut (keys (as_set (members_of qs)))) → Makes (remove_all k (members_of ps) s) r old new
 pairs_made k ps qs s r old new same a replied put =
     let keys_are = ap (λ (xs : List (Bytes × ℤ)). keys (as_set (members_of xs))) same ∙ all_lost s ps a in
-    reduced_made k (members_of ps) s (as_set (members_of qs)) r _ old new keys_are replied refl put
+    reduced_made k (members_of ps) s (keys (as_set (members_of qs))) r _ old new keys_are replied (len_keys (as_set (members_of qs))) put
 
 pub taken_made : (k : Bytes) (ps qs : List (Bytes × ℤ)) (s : Scores) (r : Tree) (there : ByteMap (Unit {0})) (old new : List Effect) → qs ≡ ps → AreIn s ps → there ≡ as_set (members_of qs) → r ≡ pairs_reply WithScores qs → new ≡ old ++ map (effect.RemoveScores k) (cut (keys there)) → Makes (reduced_to k (pairs_reply WithScores ps) s (without_scores (members_of ps) s)) r old new
 taken_made k ps qs s r there old new same a is replied put = record {

@@ -3,6 +3,7 @@ ghost use Rattle.std.specs.Prelude.{◌≡◌, ◌∷◌, ◌++◌, [], map, OnO
 ghost use Rattle.std.specs.FinMap.{keys};
 ghost use Rattle.mr_effect.specs.declared.effect.Effect.TheVariants as made;
 ghost use Rattle.mr_entries.specs.Cuts.{cut};
+ghost use Rattle.mr_room.specs.Taken.{texts};
 ghost use Rattle.mr_cmd_zset.specs.Scores.{changed, changed_alone};
 
 use crate::groups::{MemberGroup, ScoreGroup, end_members, end_scores};
@@ -47,17 +48,17 @@ pub fn push_changed_alone(
     Ok(())
 }
 
-/// Effects that take these members out, in byte order.
+/// Effects that take these members out, in the order in which they stand.
 pub fn push_lost(
     alloc: Global,
     key: &Argument<'_>,
-    members: &SliceMap<'_, ()>,
+    members: &[&[u8]],
     effects: &mut Effects,
 ) -> Result<(), AllocError>
-    ensures { OnOk result (effects.new ≡ effects.old ++ map (made.RemoveScores key.now) (cut (keys members.now))) }
+    ensures { OnOk result (effects.new ≡ effects.old ++ map (made.RemoveScores key.now) (cut (texts members.now))) }
 {
     let mut group = MemberGroup::new(alloc, key.as_slice());
-    for (member, _) in members.iter() {
+    for member in members {
         group.push(member, effects)?;
     }
     end_members(group, effects)?;

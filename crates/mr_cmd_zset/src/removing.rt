@@ -10,6 +10,7 @@ ghost use Rattle.mr_entries.specs.Steps.{sorted_sets};
 ghost use Rattle.mr_effect.specs.declared.effect.Effect.TheVariants as made;
 ghost use Rattle.mr_entries.specs.Cuts.{cut};
 ghost use Rattle.mr_room.specs.Answered.{Takes};
+ghost use Rattle.mr_room.specs.Taken.{texts};
 ghost use Rattle.mr_room.specs.Collections.{changing};
 ghost use Rattle.mr_cmd_zset.specs.Scores.{number, pairs_in, lost, Makes};
 ghost use Rattle.mr_cmd_zset.specs.Removing.{members_of, zrem, zremrangebyrank, zremrangebyscore, as_set, take_pairs};
@@ -20,7 +21,6 @@ use crate::replies::set_at;
 use mr_arguments::{Argument, Words};
 use mr_bytes::window;
 use mr_data::Entry;
-use mr_map::SliceMap;
 use mr_resp::Reply;
 use mr_room::{Effects, count, wrong_kind};
 use mr_zset::{Bound, Pair, ZSet};
@@ -61,22 +61,31 @@ fn remove_named(
     Ok(count(lost.len()))
 }
 
-/// The members that are named and there, each once. They are not copied.
+/// The members that are named and there, in byte order, each once. They are not copied.
 fn named_there<'a>(
     alloc: Global,
     members: &Words<'a, '_>,
     set: &ZSet,
-) -> Result<SliceMap<'a, ()>, AllocError>
-    ensures { IfOk result (λ there. keys there ≡ lost set.now (without_scores members.now set.now)) }
+) -> Result<Vec<&'a [u8]>, AllocError>
+    ensures { IfOk result (λ there. texts there.items ≡ lost set.now (without_scores members.now set.now)) }
 {
-    let mut there = SliceMap::new(alloc);
+    let mut there = Vec::new(alloc);
     for word in members.as_slice() {
         let member = word.as_slice();
         if set.score(member).is_some() {
-            there.insert(member, ())?;
+            there.push(member)?;
         }
     }
-    Ok(there)
+    Ok(in_byte_order(there))
+}
+
+/// These members in byte order, each once. It takes no memory.
+fn in_byte_order(mut members: Vec<&[u8]>) -> Vec<&[u8]>
+    ensures { texts result.items ≡ keys (as_set (texts members.entry.items)) }
+{
+    members.sort_unstable();
+    members.dedup();
+    members
 }
 
 /// `ZREMRANGEBYRANK`
@@ -214,20 +223,20 @@ fn push_members(
         push_lost_alone(alloc, key, pair.member, effects)?;
         return Ok(1);
     }
-    let lost = in_byte_order(alloc, pairs)?;
+    let lost = members_of(alloc, pairs)?;
     push_lost(alloc, key, &lost, effects)?;
     Ok(lost.len())
 }
 
-/// The members of pairs in byte order. They are not copied.
-fn in_byte_order<'d>(alloc: Global, pairs: &[Pair<'d>]) -> Result<SliceMap<'d, ()>, AllocError>
-    ensures { IfOk result (λ members. members ≡ as_set (members_of (map shown pairs.now))) }
+/// The members of pairs in byte order, each once. They are not copied.
+fn members_of<'d>(alloc: Global, pairs: &[Pair<'d>]) -> Result<Vec<&'d [u8]>, AllocError>
+    ensures { IfOk result (λ members. texts members.items ≡ keys (as_set (members_of (map shown pairs.now)))) }
 {
-    let mut members = SliceMap::new(alloc);
+    let mut members = Vec::with_capacity(alloc, pairs.len())?;
     for pair in pairs {
-        members.insert(pair.member, ())?;
+        members.push(pair.member)?;
     }
-    Ok(members)
+    Ok(in_byte_order(members))
 }
 
 /// `ZPOPMIN`, `ZPOPMAX`

@@ -1,5 +1,4 @@
-use Rattle.std.proofs.Common.{◌≡◌, ◌∷◌, []}
-use Rattle.std.specs.FinMap.{entries}
+use Rattle.std.proofs.Common.{◌≡◌, ◌∷◌, [], drop}
 use Rattle.mr_effect.specs.declared.effect.Effect.TheVariants as made
 use Rattle.mr_cmd_zset.proofs.Pushing.{IsPushing}
 use Rattle.mr_cmd_zset.proofs.grouping.push_lost.Given as goal
@@ -7,5 +6,5 @@ use Rattle.mr_cmd_zset.proofs.grouping.push_lost.Given as goal
 abbrev pub invariant-loop-member : goal.invariant-loop-member
 invariant-loop-member l = record {
   key : l.group.key.now ≡ l.key;
-  pushing : IsPushing (made.RemoveScores l.key) (λ e. e.0 ∷ []) (entries l.members) l.initial.effects l.effects l.group.members l.member-iterator;
+  pushing : IsPushing (made.RemoveScores l.key) (λ m. m.now ∷ []) l.members l.initial.effects l.effects l.group.members (drop l.member-index l.members);
 }
