@@ -10,14 +10,15 @@ ghost use Rattle.mr_cmd_string.specs.Changing.{append_answer, setrange_answer, i
 
 use crate::replies::{no_integer, overflow, too_long};
 use mr_arguments::Argument;
-use mr_bytes::{Bytes, Word, read_i64};
+use mr_bytes::{Word, read_i64};
 use mr_data::{Effect, Entry, Value};
 use mr_resp::Reply;
 use mr_room::{Effects, count, integer, wrong_kind};
+use mr_value::CompactBytes;
 use std::alloc::{AllocError, Global};
 
 /// The text at a key: this one where nothing is there. None where the key holds another kind.
-fn text_at<'t>(none: &'t Bytes, live_entry: Option<&'t Entry>) -> Option<&'t Bytes>
+fn text_at<'t>(none: &'t CompactBytes, live_entry: Option<&'t Entry>) -> Option<&'t CompactBytes>
     ensures { option_copied result ≡ held (strings none.now) (option_copied live_entry.entry) }
 {
     match live_entry {
@@ -39,7 +40,7 @@ pub fn append(
 ) -> Result<Reply, AllocError>
     ensures { IfOk result (λ r. Takes (append_answer key.now more.now (option_copied live_entry.entry)) (view r) effects.old effects.new) }
 {
-    let none = Bytes::from_vec(Vec::new(alloc));
+    let none = CompactBytes::new();
     let Some(text) = text_at(&none, live_entry) else {
         return Ok(wrong_kind());
     };
@@ -74,7 +75,7 @@ pub fn setrange(
 ) -> Result<Reply, AllocError>
     ensures { IfOk result (λ r. Takes (setrange_answer key.now offset part.now (option_copied live_entry.entry)) (view r) effects.old effects.new) }
 {
-    let none = Bytes::from_vec(Vec::new(alloc));
+    let none = CompactBytes::new();
     let Some(text) = text_at(&none, live_entry) else {
         return Ok(wrong_kind());
     };
