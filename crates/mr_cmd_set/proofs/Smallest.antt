@@ -1,47 +1,59 @@
 -- The members of several sets are among those of the smallest.
-use Rattle.std.proofs.Common.{◌≡◌, ℕ, zero, suc, ◌+◌, ◌<◌, ◌≤◌, List, [], ◌∷◌, ◌++◌, take, get_or, length, Bool, true, false, ◌&&◌, cond, Option, Some, None, refl, sym, ◌∙◌, ap, subst, arith}
-use Rattle.std.specs.Prelude.{filter, is_some}
-use Rattle.std.specs.List.{All, Contains}
+use Rattle.std.proofs.Common.{◌≡◌, ℕ, zero, suc, ◌+◌, ◌<◌, ◌≤◌, List, [], ◌∷◌, get_or, length, Bool, true, false, ◌&&◌, cond, not, Option, Some, None, refl, sym, ◌∙◌, ap, arith}
+use Rattle.std.specs.Prelude.{◌||◌, filter, is_some}
+use Rattle.std.specs.List.{All, Contains, SwappedAt, list_all, list_any}
+use Rattle.std.specs.List.Sorted.{IsPermutation}
 use Rattle.std.specs.Borrow.{Bor}
-use Rattle.std.specs.FinMap.{get, contains_key, keys, len, retain_keys, get-retain_keys, same_map}
+use Rattle.std.specs.FinMap.{get, contains_key, keys, retain_keys, get-retain_keys, same_map}
 use Rattle.std.proofs.lemmas.Cmp.{nat_list_cmp_total}
-use Rattle.std.proofs.lemmas.List.Elements.{All-nil, All-cons, All-head, All-tail, All-push, All-weaker, All-contains, Contains-append_left, Contains-push}
+use Rattle.std.proofs.lemmas.List.{get_or_default}
+use Rattle.std.proofs.lemmas.List.Elements.{All-nil, All-cons, All-contains}
+use Rattle.std.proofs.lemmas.List.Sorted.{IsPermutation-map, IsPermutation-sym, Contains-permutation, length_permutation, list_any-IsPermutation}
 use Rattle.std.proofs.lemmas.Map.Lookups.{exact_bytes}
 use Rattle.mr_map.specs.Bytes.{Bytes}
-use Rattle.mr_room.proofs.KeyLists.{more_words}
 use Rattle.mr_cmd_set.specs.declared.set_ask.SetOperation.TheVariants as operation
 use Rattle.mr_cmd_set.specs.Members.{Members}
-use Rattle.mr_cmd_set.specs.Smallest.{IsSmallest}
-use Rattle.mr_cmd_set.specs.Grouping.{members_of, is_wanted}
-use Rattle.mr_cmd_set.specs.Combining.{of_all}
+use Rattle.mr_cmd_set.specs.Grouping.{members_of, agrees, is_wanted}
+use Rattle.mr_cmd_set.specs.Combining.{of_all, combined}
 use Rattle.mr_cmd_set.proofs.Combinations.{alike, keys_retain, wanted_members}
 
--- ---- the smallest of some sets
-pub smallest_alone : (s : Members) → IsSmallest (s ∷ []) s
-smallest_alone s = record {
-  is_one = Contains-push [] s;
-  least = All-cons (λ t. len s ≤ len t) s [] (omega arith) (All-nil (λ t. len s ≤ len t));
-}
+-- ---- a least of some values, put in front of the others by swaps
+one_of : (k n : ℕ) → k < n + 1 → {P : Type 0} → (k ≡ n → P) → (k < n → P) → P
+one_of zero zero h f g = f refl
+one_of zero (suc n) h f g = g (omega arith)
+one_of (suc k) zero h f g = absurd (omega (arith, h))
+one_of (suc k) (suc n) h f g = one_of k n (omega (arith, h)) (λ e. f (ap suc e)) (λ l. g (omega (arith, l)))
 
-module _ (all : List Members) (s t new : Members) where
-  one_of_more : IsSmallest all s → Contains (s ∷ t ∷ []) new → Contains (all ++ t ∷ []) new
-  one_of_more before (zero, below, is) = Contains-append_left all (t ∷ []) new (subst (Contains all) is before.is_one)
-  one_of_more before (suc zero, below, is) = subst (Contains (all ++ t ∷ [])) is (Contains-push all t)
-  one_of_more before (suc (suc k), below, is) = absurd (omega arith)
+module _ {X : Type 0} (size : X → ℕ) where
+  -- the first is no larger than each of the first n
+  abbrev pub IsLeastFirst : ℕ → List X → Type 0
+  IsLeastFirst n xs = (k : ℕ) (d : X) → k < n → size (get_or xs 0 d) ≤ size (get_or xs k d)
 
-  pub one_more : IsSmallest all s → IsSmallest (s ∷ t ∷ []) new → IsSmallest (all ++ t ∷ []) new
-  one_more before here =
-      let first : len new ≤ len s = All-head (λ u. len new ≤ len u) s (t ∷ []) here.least in
-      let second : len new ≤ len t = All-head (λ u. len new ≤ len u) t [] (All-tail (λ u. len new ≤ len u) s (t ∷ []) here.least) in
-      record {
-        is_one = one_of_more before here.is_one;
-        least = All-push (λ u. len new ≤ len u) all t (All-weaker (λ u. len s ≤ len u) (λ u. len new ≤ len u) (λ u h. omega arith) all before.least) second;
-      }
+  module _ (xs : List X) (n : ℕ) (x first : X) (some : 0 < n) (here : n < length xs) (at : x ≡ get_or xs n x) (front : first ≡ get_or xs 0 first) (before : IsLeastFirst n xs) where
+    at_place : (d : X) → size (get_or xs n d) ≡ size x
+    at_place d = ap size (get_or_default xs n d x here ∙ sym at)
 
-pub smallest_next : (s : Members) (xs : List (Bor Members)) (i : ℕ) (x : Bor Members) → i < length xs → x ≡ get_or xs i x → (old new : Members) → IsSmallest (s ∷ members_of (take i xs)) old → IsSmallest (old ∷ x.now ∷ []) new → IsSmallest (s ∷ members_of (take (i + 1) xs)) new
-smallest_next s xs i x here is old new before more =
-    subst (λ ts. IsSmallest (s ∷ ts) new) (sym (more_words (λ (y : Bor Members). y.now) xs i x here is))
-    (one_more (s ∷ members_of (take i xs)) old x.now new before more)
+    in_front : (d : X) → size (get_or xs 0 d) ≡ size first
+    in_front d = ap size (get_or_default xs 0 d first (omega (arith, here)) ∙ sym front)
+
+    pub least_kept : size first ≤ size x → IsLeastFirst (n + 1) xs
+    least_kept h k d below = one_of k n below
+        (λ same. let is : size (get_or xs k d) ≡ size x = ap (λ (i : ℕ). size (get_or xs i d)) same ∙ at_place d in omega (arith, h, is, in_front d))
+        (before k d)
+
+    pub least_swapped : (ys : List X) → SwappedAt xs ys 0 n → size x < size first → IsLeastFirst (n + 1) ys
+    least_swapped ys swapped h k d below = one_of k n below
+        (λ same. let is : size (get_or ys k d) ≡ size first = ap (λ (i : ℕ). size (get_or ys i d)) same ∙ ap size (swapped.1 d) ∙ in_front d in omega (arith, h, is, first_is))
+        (others k)
+      where
+        first_is : size (get_or ys 0 d) ≡ size x
+        first_is = ap size (swapped.0 d) ∙ at_place d
+
+        others : (k : ℕ) → k < n → size (get_or ys 0 d) ≤ size (get_or ys k d)
+        others zero less = omega arith
+        others (suc j) less =
+            let is : size (get_or ys (suc j) d) ≡ size (get_or xs (suc j) d) = ap size (swapped.2 (suc j) d (λ z. omega (arith, z)) (λ z. omega (arith, z, less))) in
+            omega (arith, h, first_is, in_front d, is, before (suc j) d less)
 
 -- ---- the members of all, from any of them
 both : (a b : Option (Unit {0})) (p q : Bool) → (is_some a && p) ≡ (is_some b && q) → cond p a None ≡ cond q b None
@@ -84,3 +96,28 @@ pub members_from_one : (s : Bor Members) (ss : List (Bor Members)) (t : Members)
 members_from_one s ss t one =
     same_kept (is_wanted true (s ∷ ss)) (is_wanted true ss) t s.now (λ x. implied (contains_key t x) (is_wanted true (s ∷ ss) x) (λ h. All-contains (λ (u : Members). contains_key u x ≡ true) (members_of (s ∷ ss)) t (in_each x (s ∷ ss) h) one))
     ∙ sym (wanted_members true ss s.now)
+
+-- ---- in whichever order the sets stand
+filter_alike : (p q : Bytes → Bool) → ((x : Bytes) → p x ≡ q x) → (xs : List Bytes) → filter p xs ≡ filter q xs
+filter_alike p q h [] = refl
+filter_alike p q h (x ∷ xs) = ap (λ b. cond b (x ∷ filter p xs) (filter p xs)) (h x) ∙ ap (λ (ys : List Bytes). cond (q x) (x ∷ ys) ys) (filter_alike p q h xs)
+
+none_lacks : (p : Bor Members → Bool) (ss : List (Bor Members)) → list_all p ss ≡ not (list_any (λ s. not (p s)) ss)
+none_lacks p [] = refl
+none_lacks p (s ∷ ss) = elim (p s) as (λ b. (b && list_all p ss) ≡ not (not b || list_any (λ s. not (p s)) ss)) [ true ↦ none_lacks p ss | false ↦ refl ]
+
+wanted_anyhow : (xs ys : List (Bor Members)) (x : Bytes) → IsPermutation xs ys → is_wanted true ys x ≡ is_wanted true xs x
+wanted_anyhow xs ys x moved =
+    let p : Bor Members → Bool = λ s. agrees true s.now x in
+    none_lacks p ys ∙ ap not (sym (list_any-IsPermutation (λ s. not (p s)) xs ys moved)) ∙ sym (none_lacks p xs)
+
+pub common_anyhow : (xs ys : List (Bor Members)) → IsPermutation xs ys → keys (combined operation.Intersection (members_of ys)) ≡ keys (combined operation.Intersection (members_of xs))
+common_anyhow [] [] moved = refl
+common_anyhow [] (t ∷ ts) moved = absurd (omega (arith, length_permutation [] (t ∷ ts) moved))
+common_anyhow (s ∷ ss) [] moved = absurd (omega (arith, length_permutation (s ∷ ss) [] moved))
+common_anyhow (s ∷ ss) (t ∷ ts) moved =
+    let here : Contains (members_of (t ∷ ts)) t.now = (0, omega arith, refl) in
+    let there : Contains (members_of (s ∷ ss)) t.now = Contains-permutation (members_of (t ∷ ts)) (members_of (s ∷ ss)) t.now (IsPermutation-sym (members_of (s ∷ ss)) (members_of (t ∷ ts)) (IsPermutation-map (λ (u : Bor Members). u.now) (s ∷ ss) (t ∷ ts) moved)) here in
+    sym (members_from_one t ts t.now here)
+    ∙ filter_alike (is_wanted true (t ∷ ts)) (is_wanted true (s ∷ ss)) (λ x. wanted_anyhow (s ∷ ss) (t ∷ ts) x moved) (keys t.now)
+    ∙ members_from_one s ss t.now there

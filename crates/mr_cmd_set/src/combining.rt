@@ -1,5 +1,6 @@
 // SINTER, SUNION, SDIFF: the members that several sets give.
-ghost use Rattle.std.specs.Prelude.{◌≡◌, [], ◌∷◌, ◌++◌, filter, IfOk, OnOk};
+ghost use Rattle.std.specs.Prelude.{◌≡◌, ◌++◌, length, filter, IfOk, OnOk};
+ghost use Rattle.std.specs.List.Sorted.{IsPermutation};
 ghost use Rattle.std.specs.Option.{option_map};
 ghost use Rattle.std.specs.FinMap as map;
 ghost use Rattle.mr_resp.specs.ReplyView.{view};
@@ -9,7 +10,7 @@ ghost use Rattle.mr_room.specs.Keys.{dels, expired};
 ghost use Rattle.mr_cmd_set.specs.Combining.{sets_at, combined, of_all};
 ghost use Rattle.mr_cmd_set.specs.Finding.{HasFound};
 ghost use Rattle.mr_cmd_set.specs.Members.{joined};
-ghost use Rattle.mr_cmd_set.specs.Smallest.{IsSmallest};
+ghost use Rattle.mr_cmd_set.specs.Smallest.{IsSmallestFirst};
 ghost use Rattle.mr_cmd_set.specs.Grouping.{members_of, agrees, is_wanted};
 ghost use Rattle.mr_cmd_set.specs.Sets.{bulks};
 
@@ -90,40 +91,44 @@ fn find_all<'d>(
 }
 
 /// What is made of these sets.
-pub fn combined(
-    alloc: Global,
-    operation: SetOperation,
-    sets: &Sets<'_>,
-) -> Result<Reply, AllocError>
-    ensures { IfOk result (λ r. view r ≡ bulks (map.keys (combined operation (members_of sets.now.items.items)))) }
+pub fn combined(alloc: Global, operation: SetOperation, sets: Sets<'_>) -> Result<Reply, AllocError>
+    ensures { IfOk result (λ r. view r ≡ bulks (map.keys (combined operation (members_of sets.entry.items.items)))) }
 {
-    let all = sets.items.as_slice();
-    let Some((first, others)) = all.split_first() else {
+    let sets = in_order(operation, sets.items);
+    let Some((first, others)) = sets.split_first() else {
         return Ok(Reply::Array(Vec::new(alloc)));
     };
     match operation {
-        SetOperation::Intersection => members_where(alloc, smallest(first, others), all, true),
+        SetOperation::Intersection => members_where(alloc, first, others, true),
         SetOperation::Union => union(alloc, first, others),
         SetOperation::Difference => members_where(alloc, first, others, false),
     }
 }
 
-/// The set with the fewest members: what is in all is in it, and it is the shortest to go over.
-fn smallest<'s>(first: &'s SetValue, others: &[&'s SetValue]) -> &'s SetValue
-    ensures { IsSmallest (first.now ∷ members_of others.now) result.now }
+/// Sets in the order in which they are combined. What is in all is in the smallest, and the members of that one are the
+/// fewest to ask the others for.
+fn in_order(operation: SetOperation, mut sets: Vec<&SetValue>) -> Vec<&SetValue>
+    ensures { map.keys (combined operation (members_of result.items)) ≡ map.keys (combined operation (members_of sets.entry.items)) }
 {
-    let mut smallest = first;
-    for set in others {
-        smallest = smaller(smallest, set);
+    match operation {
+        SetOperation::Intersection => {
+            put_smallest_first(&mut sets);
+            sets
+        }
+        SetOperation::Union | SetOperation::Difference => sets,
     }
-    smallest
 }
 
-/// The one of two sets that has fewer members, or the first.
-fn smaller<'s>(a: &'s SetValue, b: &'s SetValue) -> &'s SetValue
-    ensures { IsSmallest (a.now ∷ b.now ∷ []) result.now }
+/// Puts a set with the fewest members in front of the others.
+fn put_smallest_first(sets: &mut [&SetValue])
+    ensures same { IsPermutation sets.old sets.new }
+    ensures smallest { IsSmallestFirst (length sets.new) sets.new }
 {
-    if a.len() <= b.len() { a } else { b }
+    for place in 1..sets.len() {
+        if sets[place].len() < sets[0].len() {
+            sets.swap(0, place);
+        }
+    }
 }
 
 /// The answer of the members of a set that each of some others has, or lacks, in byte order.

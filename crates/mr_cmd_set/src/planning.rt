@@ -174,7 +174,7 @@ fn combine(
 {
     let empty = SetValue::new(alloc);
     match look_at_all(alloc, held, keys, given, &empty, effects)? {
-        Some(sets) => combined(alloc, operation, &sets),
+        Some(sets) => combined(alloc, operation, sets),
         None => Ok(wrong_kind()),
     }
 }
