@@ -4,7 +4,6 @@
 pub mod arguments;
 mod edits;
 mod ends;
-mod finding;
 mod list_ask;
 mod moves;
 mod parts;
