@@ -172,7 +172,8 @@ class LargeReplies(Serving):
         for at in range(200):
             self.assertEqual(self.other.asks("INCR", "n"), number(at + 1))
         self.assertEqual(self.it.descriptors(), links + 1)
-        self.assertLess(self.it.peak(), UNREAD)
+        # of 300 MiB; a buffer that grows is there twice for a moment
+        self.assertLess(self.it.peak(), UNREAD + LEVEL)
         wanted = bulk(value)
         for _ in range(300):
             self.assertTrue(late.receive(len(wanted)) == wanted)
