@@ -78,7 +78,7 @@ remove_members_keeps members = on_keeps sets MembersFit sets_suit (λ s. Some (w
 set_scores_keeps : (pairs : List (Bytes × ℤ)) → IsTrue (list_all member_fits pairs) → IsTrue (list_all has_score pairs) → Keeps (set_scores_step pairs)
 set_scores_keeps pairs fit within = on_keeps sorted_sets ScoresFit sorted_sets_suit (λ s. Some (with_scores pairs s)) (always ScoresFit (with_scores pairs) (λ s old. with_scores_fit pairs s fit within old))
 
-remove_scores_keeps : (members : List Bytes) → Keeps (remove_scores_step members)
+pub remove_scores_keeps : (members : List Bytes) → Keeps (remove_scores_step members)
 remove_scores_keeps members = on_keeps sorted_sets ScoresFit sorted_sets_suit (λ s. Some (without_scores members s)) (always ScoresFit (without_scores members) (λ s old. without_scores_fit members s old))
 
 push_keeps : (end : End) (items : List Bytes) → IsTrue (list_all fits items) → Keeps (push_step end items)

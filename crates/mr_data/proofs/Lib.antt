@@ -15,3 +15,4 @@ pub mod Grouping
 pub mod Entries
 pub mod Folds
 pub mod RebuildingLaws
+mod Leaving

@@ -3,3 +3,4 @@ pub mod Given
 pub mod Meaning
 pub mod Rebuilding
 pub mod Due
+pub mod Whole

@@ -5,6 +5,8 @@ ghost use Rattle.std.specs.FinMap as map;
 ghost use Rattle.mr_entries.specs.TimedKeys.{timed_keys, shown};
 
 mod applying;
+mod together;
+mod whole;
 
 use mr_entries::{Entries, Entry, TimedKey, Value};
 use mr_map::Keys;

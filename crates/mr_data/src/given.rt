@@ -10,10 +10,11 @@ pub struct Given {
     pub ghost in_range: { IsMoment now },
 }
 
-const LAST_MOMENT: i64 = 1 << 61;
+/// No moment is later, in milliseconds.
+pub const LAST_MOMENT: i64 = 1 << 61;
 
 impl Given {
-    /// A moment in milliseconds, from 0 to 2^61, and a random word.
+    /// A moment in milliseconds, from 0 to the last one, and a random word.
     pub fn new(now: i64, word: u64) -> Option<Given>
         ensures valid { IsSome result ↔ IsMoment now }
         ensures now { IfSome result (λ given. given.now ≡ now) }

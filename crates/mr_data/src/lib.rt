@@ -10,7 +10,7 @@ mod rebuilding;
 
 pub use dataset::Dataset;
 pub use due::DueKey;
-pub use given::Given;
+pub use given::{Given, LAST_MOMENT};
 pub use laws::{
     effects_come_in_parts, rebuilding_has_command_texts, rebuilding_makes_the_dataset,
     renaming_to_itself_changes_nothing, seen_is_what_is_not_expired, texts_are_set_in_order,

@@ -1,5 +1,5 @@
 -- What is put into a part or taken from it is put into all or taken from all.
-use Rattle.std.proofs.Common.{◌≡◌, ℕ, ◌+◌, ◌-◌, ◌<◌, ◌≤◌, ◌^◌, List, Bool, true, false, Option, Some, None, length, get_or, take, set, refl, sym, subst, ap, ◌∙◌, arith}
+use Rattle.std.proofs.Common.{◌≡◌, ℕ, ◌+◌, ◌-◌, ◌<◌, ◌≤◌, List, Bool, true, false, Option, Some, None, length, get_or, take, set, refl, sym, subst, ap, ◌∙◌, arith}
 use Rattle.std.specs.Prelude.{IfOk, OnErr, OnOk, Result, Ok, Err, if◌then◌else◌, is_some}
 use Rattle.std.specs.Result.{is_err, is_ok}
 use Rattle.std.specs.declared.cmp.Ordering.{Ordering}
@@ -10,7 +10,7 @@ use Rattle.std.specs.List.Sorted.{IsStrictlySortedBy}
 use Rattle.std.proofs.lemmas.List.Concat.{get_or-flat_map}
 use Rattle.std.proofs.lemmas.List.Edits.{length-insert, length-remove}
 use Rattle.mr_order.specs.Changes.{IsFound, IsItemAt, IsPut, IsTaken, left_at, put_at}
-use Rattle.mr_order.specs.Parts.{AreCounted, IsSound}
+use Rattle.mr_order.specs.Parts.{AreCounted, IsSound, length_limit}
 use Rattle.mr_order.specs.Standing.{IsBetween, IsPlaceOf, Tells, shifted}
 use Rattle.mr_order.proofs.Flat.{flat_insert, flat_remove, flat_same, flat_take}
 use Rattle.mr_order.proofs.Kept.{insert_absent, insert_present, sorted_insert, sorted_remove}
@@ -122,7 +122,7 @@ module _ {A : Type 0} (compare : A → Ordering) (items : List A) where
   }
 
 module _ {P A : Type 0} (compare : A → Ordering) (items : P → List A) (is_kept : P → Type 0) (parts news : List P) (len : ℕ) (c : AreCounted items is_kept parts len) (sound : All (IsSound items is_kept) news) where
-  pub counted_new : (x : A) → len < 2 ^ 62 → IsPut compare (flat_map items parts) x (flat_map items news) true → AreCounted items is_kept news (len + 1)
+  pub counted_new : (x : A) → len < length_limit → IsPut compare (flat_map items parts) x (flat_map items news) true → AreCounted items is_kept news (len + 1)
   counted_new x room p = by p.place p.is p.told p.put where
     by : (r : Result ℕ ℕ) → IsPlaceOf compare (flat_map items parts) r → is_err r ≡ true → flat_map items news ≡ put_at r x (flat_map items parts) → AreCounted items is_kept news (len + 1)
     by (Ok at) stands told e = cc

@@ -1,5 +1,5 @@
 -- Parts that are counted stay counted.
-use Rattle.std.proofs.Common.{◌≡◌, ℕ, ◌+◌, ◌-◌, ◌/◌, ◌<◌, ◌≤◌, ◌^◌, List, [], ◌∷◌, ◌++◌, length, take, drop, true, false, sym, ap, ◌∙◌, arith, length-append}
+use Rattle.std.proofs.Common.{◌≡◌, ℕ, ◌+◌, ◌-◌, ◌/◌, ◌<◌, ◌≤◌, List, [], ◌∷◌, ◌++◌, length, take, drop, true, false, sym, ap, ◌∙◌, arith, length-append}
 use Rattle.std.specs.Prelude.{nat_le}
 use Rattle.std.specs.List.{All, flat_map, insert, remove}
 use Rattle.std.proofs.lemmas.Bool.Decides.{nat_tests}
@@ -7,7 +7,7 @@ use Rattle.std.proofs.lemmas.List.{append-nil, length-drop, length-take-le}
 use Rattle.std.proofs.lemmas.List.Concat.{flat_map-append}
 use Rattle.std.proofs.lemmas.List.Edits.{length-insert, length-remove}
 use Rattle.std.proofs.lemmas.List.Elements.{All-append, All-cons, All-drop, All-head, All-nil, All-take}
-use Rattle.mr_order.specs.Parts.{IsSound, AreCounted, IsLevel}
+use Rattle.mr_order.specs.Parts.{IsSound, AreCounted, IsLevel, length_limit}
 use Rattle.mr_order.proofs.Flat.{flat_cut}
 
 le_true : (a b : ℕ) → nat_le a b ≡ true → a ≤ b
@@ -39,7 +39,7 @@ module _ {P A : Type 0} (items : P → List A) (is_kept : P → Type 0) where
     pub counted_same : flat_map items news ≡ flat_map items parts → AreCounted items is_kept news len
     counted_same same = record { sound = sound; counted = c.counted ∙ ap length (sym same); small = c.small }
 
-    pub counted_insert : (at : ℕ) (x : A) → flat_map items news ≡ insert (flat_map items parts) at x → at ≤ length (flat_map items parts) → len < 2 ^ 62 → AreCounted items is_kept news (len + 1)
+    pub counted_insert : (at : ℕ) (x : A) → flat_map items news ≡ insert (flat_map items parts) at x → at ≤ length (flat_map items parts) → len < length_limit → AreCounted items is_kept news (len + 1)
     counted_insert at x is within room = record {
       sound = sound;
       counted = (let was = c.counted in let long = length-insert (flat_map items parts) at x within in let e = ap length is in omega arith);
@@ -68,7 +68,7 @@ module _ {P A : Type 0} (items : P → List A) (is_kept : P → Type 0) where
     small = (let was = c.counted in let s = c.small in let cut = ap length (flat_cut items parts half) in let long = length-append (flat_map items (take half parts)) (flat_map items (drop half parts)) in omega arith);
   }
 
-  pub counted_append : (parts others : List P) (len more : ℕ) → AreCounted items is_kept parts len → AreCounted items is_kept others more → len + more ≤ 2 ^ 62 → AreCounted items is_kept (parts ++ others) (len + more)
+  pub counted_append : (parts others : List P) (len more : ℕ) → AreCounted items is_kept parts len → AreCounted items is_kept others more → len + more ≤ length_limit → AreCounted items is_kept (parts ++ others) (len + more)
   counted_append parts others len more c d small = record {
     sound = All-append (IsSound items is_kept) parts others c.sound d.sound;
     counted = (let was = c.counted in let has = d.counted in let e = ap length (flat_map-append items parts others) in let long = length-append (flat_map items parts) (flat_map items others) in omega arith);

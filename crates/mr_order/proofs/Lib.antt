@@ -5,4 +5,5 @@ pub mod Kept
 pub mod Levels
 pub mod Locating
 pub mod Narrow
+pub mod Ranges
 pub mod Sound

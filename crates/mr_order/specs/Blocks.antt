@@ -1,8 +1,8 @@
 -- The parts of which a list of places is made: one chunk, or levels of chunks.
-use Rattle.std.specs.Prelude.{◌<◌, ◌≤◌, ◌^◌, List, length}
+use Rattle.std.specs.Prelude.{◌<◌, ◌≤◌, List, length}
 use Rattle.std.specs.Global.{Vec}
 use Rattle.std.specs.List.{All, flat_map}
-use Rattle.mr_order.specs.Parts.{IsLevel, IsSound}
+use Rattle.mr_order.specs.Parts.{IsLevel, IsSound, length_limit}
 use Rattle.mr_order.specs.declared.level.Level.{Level}
 use Rattle.mr_order.specs.declared.root.Root.{Root}
 use Rattle.mr_order.specs.declared.root.Root.TheVariants.{Chunk, Blocks}
@@ -54,4 +54,4 @@ module _ {A : Type 0} where
   -- what a list may be made of
   pub record IsRoot (root : Root A) : Type 0 where
     pub kept : IsKeptRoot root
-    pub small : length (root_items root) ≤ 2 ^ 62
+    pub small : length (root_items root) ≤ length_limit

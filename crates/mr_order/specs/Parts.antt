@@ -2,6 +2,10 @@
 use Rattle.std.specs.Prelude.{◌≡◌, ℕ, ◌<◌, ◌≤◌, ◌^◌, List, length}
 use Rattle.std.specs.List.{All, flat_map}
 
+-- no list has more items
+abbrev pub length_limit : ℕ
+length_limit = 2 ^ 62
+
 module _ {P A : Type 0} (items : P → List A) (is_kept : P → Type 0) where
   -- a part that may stand among others
   pub record IsSound (part : P) : Type 0 where
@@ -12,7 +16,7 @@ module _ {P A : Type 0} (items : P → List A) (is_kept : P → Type 0) where
   pub record AreCounted (parts : List P) (len : ℕ) : Type 0 where
     pub sound : All IsSound parts
     pub counted : len ≡ length (flat_map items parts)
-    pub small : len ≤ 2 ^ 62
+    pub small : len ≤ length_limit
 
   -- so many parts as one level may have
   pub record IsLevel (parts : List P) (len : ℕ) : Type 0 where

@@ -75,6 +75,10 @@ impl<T: Ord + Drop> Part for Vec<T> {
         Vec::remove(self, at)
     }
 
+    fn remove_range(&mut self, from: usize, to: usize) {
+        self.drain(from..to);
+    }
+
     fn take<Q: Query<T>>(&mut self, query: Q) -> Option<T> {
         match self.locate(query) {
             Ok(at) => Some(Vec::remove(self, at)),

@@ -2,7 +2,7 @@
 ghost use Rattle.std.specs.Prelude.{◌≡◌, ◌+◌, ◌<◌, ◌≤◌, ◌^◌, IfOk, OnErr, false, length, slice_index_or, take};
 ghost use Rattle.std.specs.List.{All, flat_map};
 ghost use Rattle.mr_order.specs.Changes.{IsPut, IsTaken};
-ghost use Rattle.mr_order.specs.Parts.{IsSound};
+ghost use Rattle.mr_order.specs.Parts.{IsSound, length_limit};
 ghost use Rattle.mr_order.specs.Standing.{IsBetween, IsDivided};
 
 use crate::grow::insert_into;
@@ -21,7 +21,7 @@ pub(crate) fn put_into<P: Part>(
 ) -> Result<bool, AllocError>
     requires sound { All (IsSound P.items P.is_kept) parts.old.items }
     requires len { len ≡ length (flat_map P.items parts.old.items) }
-    requires small { len < 2 ^ 62 }
+    requires small { len < length_limit }
     requires divided { IsDivided (P.Item.cmp item) (flat_map P.items parts.old.items) }
     ensures sound { All (IsSound P.items P.is_kept) parts.new.items }
     ensures ok { IfOk result (λ added. IsPut (P.Item.cmp item) (flat_map P.items parts.old.items) item (flat_map P.items parts.new.items) added) }
@@ -44,7 +44,7 @@ pub(crate) fn put_into<P: Part>(
 fn put_by_place<P: Part>(parts: &mut Vec<P>, len: usize, item: P::Item) -> Result<bool, AllocError>
     requires sound { All (IsSound P.items P.is_kept) parts.old.items }
     requires len { len ≡ length (flat_map P.items parts.old.items) }
-    requires small { len < 2 ^ 62 }
+    requires small { len < length_limit }
     requires divided { IsDivided (P.Item.cmp item) (flat_map P.items parts.old.items) }
     ensures sound { All (IsSound P.items P.is_kept) parts.new.items }
     ensures ok { IfOk result (λ added. IsPut (P.Item.cmp item) (flat_map P.items parts.old.items) item (flat_map P.items parts.new.items) added) }

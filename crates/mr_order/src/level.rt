@@ -1,9 +1,10 @@
 // A part of smaller parts.
-ghost use Rattle.std.specs.Prelude.{◌&&◌, ◌≡◌, ◌+◌, ◌<◌, ◌^◌, [], length, nat_le, vec_capacity, vec_len};
+ghost use Rattle.std.specs.Prelude.{◌&&◌, ◌≡◌, ◌+◌, ◌<◌, [], length, nat_le, vec_capacity, vec_len};
 ghost use Rattle.std.specs.List.{flat_map};
 ghost use Rattle.mr_order.specs.Blocks.{level_items, IsKeptLevel};
-ghost use Rattle.mr_order.specs.Parts.{IsLevel, IsSound};
+ghost use Rattle.mr_order.specs.Parts.{IsLevel, IsSound, length_limit};
 
+use crate::cutting::remove_range_from;
 use crate::descent::{put_into, take_out};
 use crate::grow::insert_into;
 use crate::locate::{first, get, locate};
@@ -21,7 +22,7 @@ const WIDTH: usize = 32;
 const JOINED: usize = 16;
 
 /// No list has more items.
-pub(crate) const MOST: usize = 1 << 62;
+pub(crate) const LENGTH_LIMIT: usize = 1 << 62;
 
 /// Smaller parts, one behind the other, and how many items they have together.
 #[derive(Drop)]
@@ -56,7 +57,7 @@ impl<P: Part> Part for Level<P> {
 
     ghost is_full = { λ l. nat_le 32 (length l.parts.items) };
 
-    ghost fits = { λ l next. nat_le (length l.parts.items + length next.parts.items) 16 && nat_le (l.len + next.len) (2 ^ 62) };
+    ghost fits = { λ l next. nat_le (length l.parts.items + length next.parts.items) 16 && nat_le (l.len + next.len) length_limit };
 
     fn one(alloc: Global, item: P::Item) -> Result<Self, AllocError> {
         let mut parts = Vec::with_capacity(alloc, 1)?;
@@ -74,7 +75,7 @@ impl<P: Part> Part for Level<P> {
     }
 
     fn fits(&self, next: &Self) -> bool {
-        self.parts.len() + next.parts.len() <= JOINED && self.len + next.len <= MOST
+        self.parts.len() + next.parts.len() <= JOINED && self.len + next.len <= LENGTH_LIMIT
     }
 
     fn item(&self, at: usize) -> &P::Item {
@@ -86,7 +87,7 @@ impl<P: Part> Part for Level<P> {
     }
 
     fn insert(&mut self, at: usize, item: P::Item) -> Result<(), AllocError> {
-        if self.len == MOST {
+        if self.len == LENGTH_LIMIT {
             return Err(AllocError);
         }
         insert_into(&mut self.parts, self.len, at, item)?;
@@ -95,7 +96,7 @@ impl<P: Part> Part for Level<P> {
     }
 
     fn put(&mut self, item: P::Item) -> Result<bool, AllocError> {
-        if self.len == MOST {
+        if self.len == LENGTH_LIMIT {
             return Err(AllocError);
         }
         if put_into(&mut self.parts, self.len, item)? {
@@ -114,6 +115,11 @@ impl<P: Part> Part for Level<P> {
         let item = remove_from(&mut self.parts, at);
         self.len -= 1;
         item
+    }
+
+    fn remove_range(&mut self, from: usize, to: usize) {
+        remove_range_from(&mut self.parts, from, to);
+        self.len -= to - from;
     }
 
     fn take<Q: Query<P::Item>>(&mut self, query: Q) -> Option<P::Item> {

@@ -7,6 +7,7 @@
 #![tactic(auto)]
 
 mod chunk;
+mod cutting;
 mod descent;
 mod grow;
 mod iter;

@@ -1,5 +1,5 @@
 // Items in strict order.
-ghost use Rattle.std.specs.Prelude.{◌≡◌, ◌==◌, ◌+◌, ◌-◌, ◌∷◌, ◌++◌, ◌<◌, ◌≤◌, ◌^◌, ℕ, [], IfOk, IsTrue, MatchOption, OnErr, OnOk, drop, if◌then◌else◌, length, option_copied, set, slice_get, slice_index_or, slice_range};
+ghost use Rattle.std.specs.Prelude.{◌≡◌, ◌==◌, ◌+◌, ◌-◌, ◌∷◌, ◌++◌, ◌<◌, ◌≤◌, ◌^◌, ℕ, [], IfOk, IsTrue, MatchOption, OnErr, OnOk, drop, if◌then◌else◌, length, option_copied, set, slice_get, slice_index_or, slice_range, take};
 ghost use Rattle.std.specs.declared.cmp.Ordering.TheVariants.{Equal, Greater};
 ghost use Rattle.std.specs.BTreeSet.{insert_key};
 ghost use Rattle.std.specs.List.{insert, remove};
@@ -7,6 +7,7 @@ ghost use Rattle.std.specs.List.Sorted.{IsPartitionPoint, IsStrictlySortedBy};
 ghost use Rattle.std.specs.Ordering.{is_le};
 ghost use Rattle.mr_order.specs.Changes.{IsFound, IsTaken};
 ghost use Rattle.mr_order.specs.Standing.{IsPlaceOf, StandsBefore, Tells};
+ghost use Rattle.mr_order.specs.Parts.{length_limit};
 
 use crate::iter::Iter;
 use crate::places::Places;
@@ -50,7 +51,7 @@ impl<T: Ord + Drop> Ordered<T> {
     /// How many items there are.
     pub fn len(&self) -> usize
         ensures len { result ≡ length self.now }
-        ensures small { result ≤ 2 ^ 62 }
+        ensures small { result ≤ length_limit }
         ensures ordered { IsStrictlySortedBy T.cmp self.now }
     {
         self.places.len()
@@ -186,6 +187,15 @@ impl<T: Ord + Drop> Ordered<T> {
         ensures value { result ≡ slice_index_or self.old at result }
     {
         self.places.remove(at)
+    }
+
+    /// Takes the items from one place to another, the second left out. It takes no memory.
+    pub fn remove_range(&mut self, from: usize, to: usize)
+        requires ordered { from ≤ to }
+        requires within { to ≤ length self.old }
+        ensures { self.new ≡ take from self.old ++ drop to self.old }
+    {
+        self.places.remove_range(from, to);
     }
 
     /// Takes the item to which a query is equal, if there is one. It is found as `contains` finds it.

@@ -1,8 +1,8 @@
 // What a list of items is made of.
 ghost use Rattle.std.specs.Prelude.{◌≡◌, ◌+◌, ◌-◌, ◌++◌, ◌∷◌, ◌<◌, ◌≤◌, ◌^◌, [], Bool, List, ℕ, IfErr, IfOk, OnErr, OnOk, false, length, option_copied, set, slice_index_or, true};
-ghost use Rattle.std.specs.List.{insert, remove};
+ghost use Rattle.std.specs.List.{insert, remove, remove_range};
 ghost use Rattle.mr_order.specs.Changes.{IsFound, IsPut, IsTaken};
-ghost use Rattle.mr_order.specs.Parts.{IsSound};
+ghost use Rattle.mr_order.specs.Parts.{IsSound, length_limit};
 ghost use Rattle.mr_order.specs.Runs.{IsIn};
 ghost use Rattle.mr_order.specs.Standing.{IsBetween, IsDivided, IsPlaceOf};
 
@@ -34,7 +34,7 @@ pub(crate) trait Part: Drop {
     fn len(&self) -> usize
         requires { is_kept self.now }
         ensures len { result ≡ length (items self.now) }
-        ensures small { result ≤ 2 ^ 62 };
+        ensures small { result ≤ length_limit };
 
     /// Whether it is to be cut in two before it takes a further item.
     fn is_full(&self) -> bool
@@ -92,6 +92,14 @@ pub(crate) trait Part: Drop {
         ensures kept { is_kept self.new }
         ensures removed { items self.new ≡ remove (items self.old) at }
         ensures value { result ≡ slice_index_or (items self.old) at result };
+
+    /// Takes the items from one place to another, the second left out. It takes no memory.
+    fn remove_range(&mut self, from: usize, to: usize)
+        requires kept { is_kept self.old }
+        requires ordered { from ≤ to }
+        requires within { to ≤ length (items self.old) }
+        ensures kept { is_kept self.new }
+        ensures removed { items self.new ≡ remove_range (items self.old) from to };
 
     /// Takes the item to which a query is equal, if there is one.
     fn take<Q: Query<Self::Item>>(&mut self, query: Q) -> Option<Self::Item>

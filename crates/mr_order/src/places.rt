@@ -1,14 +1,16 @@
 // A list of items with places.
 ghost use Rattle.std.specs.Prelude.{◌≡◌, ◌==◌, ◌+◌, ◌-◌, ◌<◌, ◌≤◌, ◌^◌, ℕ, [], IfOk, OnErr, OnOk, length, option_copied, set, slice_index_or, slice_range};
-ghost use Rattle.std.specs.List.{insert, remove};
+ghost use Rattle.std.specs.List.{insert, remove, remove_range};
 ghost use Rattle.mr_order.specs.Changes.{IsFound, IsPut, IsTaken};
 ghost use Rattle.mr_order.specs.Runs.{IsIn};
 ghost use Rattle.mr_order.specs.Standing.{IsDivided, IsPlaceOf, Tells};
+ghost use Rattle.mr_order.specs.Parts.{length_limit};
 
+use crate::cutting::remove_range_from;
 use crate::descent::put_into;
 use crate::grow::insert_into;
 use crate::iter::Iter;
-use crate::level::MOST;
+use crate::level::LENGTH_LIMIT;
 use crate::locate::{get, locate};
 use crate::part::Part;
 use crate::parts;
@@ -49,7 +51,7 @@ impl<T: Ord + Drop> Places<T> {
     /// How many items there are.
     pub fn len(&self) -> usize
         ensures len { result ≡ length self.now }
-        ensures small { result ≤ 2 ^ 62 }
+        ensures small { result ≤ length_limit }
     {
         self.root.len()
     }
@@ -79,7 +81,7 @@ impl<T: Ord + Drop> Places<T> {
         ensures err { OnErr result (self.new ≡ self.old) }
     {
         let len = self.len();
-        if len == MOST {
+        if len == LENGTH_LIMIT {
             return Err(AllocError);
         }
         self.root.make_room()?;
@@ -97,7 +99,7 @@ impl<T: Ord + Drop> Places<T> {
         ensures err { OnErr result (self.new ≡ self.old) }
     {
         let len = self.len();
-        if len == MOST {
+        if len == LENGTH_LIMIT {
             return Err(AllocError);
         }
         match &mut self.root {
@@ -143,6 +145,18 @@ impl<T: Ord + Drop> Places<T> {
         match &mut self.root {
             Root::Chunk(chunk) => Part::remove(chunk, at),
             Root::Blocks(blocks) => remove_from(blocks, at),
+        }
+    }
+
+    /// Takes the items from one place to another, the second left out. It takes no memory.
+    pub fn remove_range(&mut self, from: usize, to: usize)
+        requires ordered { from ≤ to }
+        requires within { to ≤ length self.old }
+        ensures { self.new ≡ remove_range self.old from to }
+    {
+        match &mut self.root {
+            Root::Chunk(chunk) => Part::remove_range(chunk, from, to),
+            Root::Blocks(blocks) => remove_range_from(blocks, from, to),
         }
     }
 

@@ -30,7 +30,7 @@ insert_same m k z h = same_map nat_list_cmp_total exact_bytes _ _ (λ q.
       | false ↦ λ t. refl
     ] refl)
 
-remove_absent : (m : ByteMap ℤ) (k : List ℕ) → get m k ≡ None → remove m k ≡ m
+pub remove_absent : (m : ByteMap ℤ) (k : List ℕ) → get m k ≡ None → remove m k ≡ m
 remove_absent m k h = same_map nat_list_cmp_total exact_bytes _ _ (λ q.
     get-remove nat_list_cmp_total m k q ∙ elim (eq_by_cmp bytes_cmp q k) as (λ b. eq_by_cmp bytes_cmp q k ≡ b → cond b None (get m q) ≡ get m q) [
       | true ↦ λ t. sym h ∙ ap (get m) (sym (same_key q k t))

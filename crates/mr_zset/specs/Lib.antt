@@ -1,4 +1,5 @@
 pub mod Bounds
+pub mod Leaving
 pub mod Limits
 pub mod Order
 pub mod Pairs

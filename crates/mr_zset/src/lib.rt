@@ -5,6 +5,7 @@
 mod bound;
 mod entry;
 mod laws;
+mod leaving;
 mod member_scores;
 mod pair;
 mod query;

@@ -2,10 +2,12 @@
 ghost use Rattle.std.specs.Prelude.{◌≡◌, ◌==◌, ◌+◌, ◌-◌, ◌<◌, ◌≤◌, ◌^◌, ℕ, IsTrue, OnOk, OnErr, IfOk, IfSome, Some, None, count_by, length, map, option_map, slice_get, slice_range};
 ghost use Rattle.std.specs.FinMap as finite;
 ghost use Rattle.mr_score.specs.Score.{is_score};
+ghost use Rattle.mr_zset.specs.Leaving.{texts, without_all};
 ghost use Rattle.mr_zset.specs.Pairs.{pair_lt, pairs_of, range_of, shown, without};
 
 use crate::bound::Bound;
 use crate::entry::Entry;
+use crate::leaving::{forget_all, take_out_all};
 use crate::member_scores::MemberScores;
 use crate::pair::Pair;
 use crate::stored::{
@@ -162,6 +164,14 @@ impl Ranked {
         let score = self.scores.remove(member)?;
         take_out(&mut self.pairs, Pair { score, member });
         Some(score)
+    }
+
+    /// Removes members, where they are there. It takes memory, but needs none.
+    pub(crate) fn remove_all(&mut self, members: &[&[u8]])
+        ensures { self.new ≡ without_all (texts members.now) self.old }
+    {
+        let gone = forget_all(self.alloc, &mut self.scores, &mut self.pairs, members);
+        take_out_all(&mut self.pairs, &gone, self.scores.len());
     }
 
     /// The number of pairs that are less than a score with a member, which is the place where that pair stands or would stand.

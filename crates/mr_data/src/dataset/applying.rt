@@ -57,6 +57,13 @@ impl Dataset {
         ensures memory { AllByRecursion NeedsNoMemory effects.entry.items → result ≢ Err ApplyFault.Memory }
         ensures none { effects.entry.items ≡ [] → IsOk result }
     {
+        if let Some(key) = self.whole_set(&effects) {
+            self.remove(key);
+            return Ok(());
+        }
+        if self.remove_together(*effects.allocator(), &effects) {
+            return Ok(());
+        }
         for effect in effects {
             self.apply_owned(effect)?;
         }
@@ -65,7 +72,7 @@ impl Dataset {
 }
 
 /// Whether an effect has a spelling, with words within the limit.
-fn is_possible(effect: &Effect<'_>) -> bool
+pub(super) fn is_possible(effect: &Effect<'_>) -> bool
     ensures { result ≡ (has_spelling effect.now && words_fit effect.now) }
 {
     effect.has_spelling() && effect.fits()

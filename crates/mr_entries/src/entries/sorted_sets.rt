@@ -6,6 +6,7 @@ ghost use Rattle.mr_entries.specs.Collections.{with_scores, without_scores};
 ghost use Rattle.mr_entries.specs.Changes.{at_key};
 ghost use Rattle.mr_entries.specs.Steps.{set_scores_step, remove_scores_step};
 ghost use Rattle.mr_entries.specs.Outcome.{Applies};
+ghost use Rattle.mr_zset.specs.Leaving.{texts};
 
 use crate::entries::Entries;
 use crate::fault::ApplyFault;
@@ -60,6 +61,25 @@ impl Entries {
         }
         Ok(())
     }
+
+    /// Removes members of the sorted set at a key, many at once, and the key with the last of them. It takes memory, but needs none.
+    pub fn remove_many(&mut self, key: &[u8], members: &[&[u8]]) -> Result<(), ApplyFault>
+        ensures applies { Applies (at_key (remove_scores_step (texts members.now)) key.now self.old) self.old result self.new }
+        ensures memory { result ≢ Err ApplyFault.Memory }
+    {
+        let Some(value) = self.by_key.value_mut(key) else {
+            return Ok(());
+        };
+        let Value::SortedSet(set) = value else {
+            return Err(ApplyFault::Refused);
+        };
+        take_many(set, members);
+        if set.is_empty() {
+            let _ = self.by_key.remove(key);
+            return Ok(());
+        }
+        Ok(())
+    }
 }
 
 /// Gives members of a sorted set these scores, one after another.
@@ -80,4 +100,11 @@ fn take_scores(set: &mut ZSet, members: &[Word<'_>])
     for member in members {
         let _ = set.remove(member.as_slice());
     }
+}
+
+/// Removes members from a sorted set, where they are there, many at once.
+fn take_many(set: &mut ZSet, members: &[&[u8]])
+    ensures { set.new ≡ without_scores (texts members.now) set.old }
+{
+    set.remove_all(members);
 }

@@ -9,10 +9,10 @@ use Rattle.mr_data.proofs.dataset.Dataset.apply_all.Goals as goal
 
 pub loop-effect-preserved : goal.loop-effect-preserved
 loop-effect-preserved c =
-    let e : Effect = c.in-Some.effect in
+    let e : Effect = c.in-Some-effect.effect in
     let rest : List Effect = c.next.new.self.rest.items in
     let one : apply e c.loop-effect.self ≡ Some c.apply_owned.new.self = c.in_ok-apply_owned.ensures.ok in
-    let next : c.loop-effect.effect-iterator.rest.items ≡ e ∷ rest = c.in-Some.ensures.steps.0 in
+    let next : c.loop-effect.effect-iterator.rest.items ≡ e ∷ rest = c.in-Some-effect.ensures.steps.0 in
     record {
       folded = sym (ap (option_and_then (apply_all rest)) one) ∙ sym (ap (λ (es : List Effect). apply_all es c.loop-effect.self) next) ∙ c.loop-effect.invariant.folded;
       begun = apply_all_more c.loop-effect.yielded e c.args.self.now c.loop-effect.self c.apply_owned.new.self c.loop-effect.invariant.begun one;
