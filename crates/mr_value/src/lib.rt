@@ -12,6 +12,7 @@ mod members;
 mod named;
 mod named_values;
 mod removing;
+mod room;
 mod set_value;
 
 pub use by_name::ByName;

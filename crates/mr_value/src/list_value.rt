@@ -4,6 +4,7 @@ ghost use Rattle.mr_value.specs.Lists.{are_equal, first_place, count_of, with_be
 
 use crate::compact_bytes::CompactBytes;
 use crate::items::Items;
+use crate::room::{give_room_back, make_room};
 use crate::{matching, removing};
 use std::alloc::{AllocError, Global};
 use std::collections::VecDeque;
@@ -121,6 +122,7 @@ impl ListValue {
         ensures ok { OnOk result (self.new ≡ item ∷ self.old) }
         ensures err { OnErr result (self.new ≡ self.old) }
     {
+        make_room(&mut self.items)?;
         Ok(self.items.push_front(item)?)
     }
 
@@ -129,6 +131,7 @@ impl ListValue {
         ensures ok { OnOk result (self.new ≡ self.old ++ item ∷ []) }
         ensures err { OnErr result (self.new ≡ self.old) }
     {
+        make_room(&mut self.items)?;
         Ok(self.items.push_back(item)?)
     }
 
@@ -136,14 +139,18 @@ impl ListValue {
     pub fn pop_front(&mut self) -> Option<CompactBytes>
         ensures { MatchOption result ((self.old ≡ []) × (self.new ≡ [])) (λ item. self.old ≡ item ∷ self.new) }
     {
-        self.items.pop_front()
+        let item = self.items.pop_front();
+        give_room_back(&mut self.items);
+        item
     }
 
     /// Takes the item at the back.
     pub fn pop_back(&mut self) -> Option<CompactBytes>
         ensures { MatchOption result ((self.old ≡ []) × (self.new ≡ [])) (λ item. self.old ≡ self.new ++ item ∷ []) }
     {
-        self.items.pop_back()
+        let item = self.items.pop_back();
+        give_room_back(&mut self.items);
+        item
     }
 
     /// Drops so many items in front, or all.
@@ -151,6 +158,7 @@ impl ListValue {
         ensures { self.new ≡ drop count self.old }
     {
         drop_front(&mut self.items, count);
+        give_room_back(&mut self.items);
     }
 
     /// Drops so many items at the back, or all.
@@ -159,6 +167,7 @@ impl ListValue {
     {
         let left = self.len().saturating_sub(count);
         self.items.truncate(left);
+        give_room_back(&mut self.items);
     }
 
     /// Keeps the items at the places from `first` to `last`, both included, and drops the others.
@@ -170,6 +179,7 @@ impl ListValue {
     {
         self.items.truncate(last + 1);
         drop_front(&mut self.items, first);
+        give_room_back(&mut self.items);
     }
 
     /// Moves the item in front to the back. It takes no memory.
@@ -206,6 +216,7 @@ impl ListValue {
         ensures ok { OnOk result (self.new ≡ insert self.old place item) }
         ensures err { OnErr result (self.new ≡ self.old) }
     {
+        make_room(&mut self.items)?;
         Ok(self.items.insert(place, item)?)
     }
 
@@ -219,6 +230,7 @@ impl ListValue {
     {
         match matching::first_place(&self.items, pivot) {
             Some(place) => {
+                make_room(&mut self.items)?;
                 self.items.insert(place, item)?;
                 Ok(true)
             }
@@ -236,6 +248,7 @@ impl ListValue {
     {
         match matching::first_place(&self.items, pivot) {
             Some(place) => {
+                make_room(&mut self.items)?;
                 self.items.insert(place + 1, item)?;
                 Ok(true)
             }
@@ -245,20 +258,13 @@ impl ListValue {
 
     /// Removes items that equal `item`, and answers how many: up to `count` of them from the front
     /// on, for a negative count up to as many from the back on, and all of them for 0.
-    #[tactic(auto, using(crate::proofs::Removals::all_go))]
     pub fn remove_matching(&mut self, count: i64, item: &[u8]) -> usize
         ensures list { self.new ≡ without count item.now self.old }
         ensures removed { result ≡ removed_count count (count_of item.now self.old) }
     {
-        let most = count.unsigned_abs() as usize;
-        if count < 0 {
-            return removing::remove_last(&mut self.items, most, item);
-        }
-        if count == 0 {
-            let all = self.len();
-            return removing::remove_first(&mut self.items, all, item);
-        }
-        removing::remove_first(&mut self.items, most, item)
+        let removed = removing::remove_matching(&mut self.items, count, item);
+        give_room_back(&mut self.items);
+        removed
     }
 }
 
