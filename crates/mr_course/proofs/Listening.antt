@@ -2,7 +2,7 @@
 use Rattle.std.proofs.Common.{◌≡◌, ◌∙◌, ◌≤◌, inl, inr, ℕ, List, Option, Some, Result, Ok, Err, sym, ap, subst}
 use Rattle.mr_links.specs.declared.link_id.LinkId.{LinkId}
 use Rattle.mr_entries.specs.Dataset.{Dataset}
-use Rattle.mr_peer_lines.specs.Lines.{most_counted}
+use Rattle.mr_repl.specs.Backlog.{offset_limit}
 use Rattle.mr_follow.specs.State.{FollowState}
 use Rattle.mr_follow.specs.Rows.{FollowRow, Keeps, Installs, Follows, Stays}
 use Rattle.mr_follow.specs.declared.phase.Phase.TheVariants as phase
@@ -28,7 +28,7 @@ module _ (c : CourseState) (m : Dataset) (name : LinkId) (f : FollowState) (plac
   ready (heard.Full id offset) g k told counted r = tt
   ready (heard.Continue id) g k told counted r = tt
   ready (heard.Snapshot loaded) g k told counted r = let i = r.0 in let there = placed i.id i.offset i.announced in
-      let within : i.offset ≤ most_counted = subst IsCounted there counted in
+      let within : i.offset ≤ offset_limit = subst IsCounted there counted in
       subst (λ (p : Option (List ℕ × ℕ)). IsReady (heard.Snapshot loaded) p told (reads_on name g c)) (sym there) within
   ready heard.Applied g k told counted r = r.within
 

@@ -2,7 +2,7 @@
 use Rattle.std.specs.Prelude.{◌≡◌, ◌+◌, ◌≤◌, length, ℕ, List, Option, None, Some, IfSome, Result, Ok, Err}
 use Rattle.mr_links.specs.declared.link_id.LinkId.{LinkId}
 use Rattle.mr_entries.specs.Dataset.{Dataset}
-use Rattle.mr_peer_lines.specs.Lines.{most_counted}
+use Rattle.mr_repl.specs.Backlog.{offset_limit}
 use Rattle.mr_follow.specs.State.{FollowState}
 use Rattle.mr_follow.specs.declared.phase.Phase.{Phase}
 use Rattle.mr_follow.specs.declared.phase.Phase.TheVariants as phase
@@ -22,7 +22,7 @@ IsSound follow = IfSome follow (λ f. HasUnread f.1)
 
 -- a place in a stream within the limit
 abbrev pub IsCounted : Option (List ℕ × ℕ) → Type 0
-IsCounted place = IfSome place (λ p. p.1 ≤ most_counted)
+IsCounted place = IfSome place (λ p. p.1 ≤ offset_limit)
 
 -- the place in its stream that a snapshot is waited for at
 abbrev pub place_of : Phase → Option (List ℕ × ℕ)
@@ -40,8 +40,8 @@ IsReady heard.Say place told c = Unit {0}
 IsReady (heard.Full id offset) place told c = Unit {0}
 IsReady (heard.Continue id) place told c = Unit {0}
 IsReady (heard.Snapshot m) None told c = ⊥
-IsReady (heard.Snapshot m) (Some p) told c = p.1 ≤ most_counted
-IsReady heard.Applied place told c = c.lineage.stream.offset + length told ≤ most_counted
+IsReady (heard.Snapshot m) (Some p) told c = p.1 ≤ offset_limit
+IsReady heard.Applied place told c = c.lineage.stream.offset + length told ≤ offset_limit
 
 abbrev pub adopted : Option (List ℕ × ℕ) → CourseState → CourseState
 adopted None c = c

@@ -1,5 +1,5 @@
 ghost use Rattle.std.specs.Prelude.{◌≡◌, ◌≤◌, ◌<◌, ◌+◌, ◌^◌, IfSome, IsSome, [], length, true, false, None, option_map, OnOk, OnErr};
-ghost use Rattle.mr_peer_lines.specs.Lines.{most_counted};
+ghost use Rattle.mr_repl.specs.Backlog.{offset_limit};
 ghost use Rattle.mr_follow.specs.State.{IsFollower};
 ghost use Rattle.mr_course.specs.State.{CourseState, IsCourse, CountsUnread, name_of, phase_of, dialled, left, spoiled, promoted, obeys, grows, fed};
 ghost use Rattle.mr_course.specs.Rows.{Listens};
@@ -138,7 +138,7 @@ impl Course {
     /// A master's stream grows by these bytes.
     pub fn grow(&mut self, bytes: &[u8])
         requires master { self.old.master ≡ true }
-        requires within { self.old.lineage.stream.offset + length bytes.now ≤ most_counted }
+        requires within { self.old.lineage.stream.offset + length bytes.now ≤ offset_limit }
         ensures { self.new ≡ grows bytes.now self.old }
     {
         self.parts.grow(bytes);

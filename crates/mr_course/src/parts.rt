@@ -1,5 +1,5 @@
 ghost use Rattle.std.specs.Prelude.{◌≡◌, ◌≤◌, ◌<◌, ◌+◌, ◌^◌, IfSome, IsSome, [], length, None, option_map, OnOk, OnErr};
-ghost use Rattle.mr_peer_lines.specs.Lines.{most_counted};
+ghost use Rattle.mr_repl.specs.Backlog.{offset_limit};
 ghost use Rattle.mr_follow.specs.State.{IsFollower, IsOffer};
 ghost use Rattle.mr_course.specs.State.{CourseState, CountsUnread, offer_of, name_of, phase_of, dialled, left, spoiled, promoted, obeys, grows, fed};
 ghost use Rattle.mr_course.specs.Rows.{Listens};
@@ -177,7 +177,7 @@ impl Parts {
 
     /// The stream grows by these bytes.
     pub(crate) fn grow(&mut self, bytes: &[u8])
-        requires { self.old.lineage.stream.offset + length bytes.now ≤ most_counted }
+        requires { self.old.lineage.stream.offset + length bytes.now ≤ offset_limit }
         ensures { self.new ≡ grows bytes.now self.old }
     {
         self.lineage.grow(bytes);

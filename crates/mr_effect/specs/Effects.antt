@@ -1,5 +1,5 @@
 -- What an effect carries.
-use Rattle.std.specs.Prelude.{ℤ, pos, int_le, ◌^◌, List, [], ◌∷◌, Bool, true, false, ◌&&◌}
+use Rattle.std.specs.Prelude.{ℕ, ℤ, pos, int_le, ◌^◌, List, [], ◌∷◌, Bool, true, false, ◌&&◌}
 use Rattle.std.specs.List.{list_all}
 use Rattle.mr_map.specs.Bytes.{Bytes}
 use Rattle.mr_bytes.specs.Number.{is_i64}
@@ -52,9 +52,13 @@ is_some_of (x ∷ xs) = true
 abbrev pub is_place : ℤ → Bool
 is_place i = is_i64 i && int_le (pos 0) i
 
+-- no deadline is later, in milliseconds
+abbrev pub last_deadline : ℕ
+last_deadline = 2 ^ 62
+
 -- a moment at which a key may expire, in milliseconds
 abbrev pub is_deadline : ℤ → Bool
-is_deadline d = int_le (pos 1) d && int_le d (pos (2 ^ 62))
+is_deadline d = int_le (pos 1) d && int_le d (pos last_deadline)
 
 abbrev pub has_score : Bytes × ℤ → Bool
 has_score p = is_score p.1

@@ -10,7 +10,7 @@ mod name;
 mod reading;
 mod words;
 
-pub use deadline::is_deadline;
+pub use deadline::{LAST_DEADLINE, is_deadline};
 pub use decoding::decode;
 pub use effect::Effect;
 pub use encoding::{encode, encode_all};

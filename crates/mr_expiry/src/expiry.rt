@@ -36,7 +36,8 @@ impl Expiry {
         }
     }
 
-    /// The moment from which on the key is expired, where it is said at the moment `now`.
+    /// The moment from which on the key is expired, where it is said at the moment `now`. No moment is later than
+    /// `last_moment` of `mr_data`, a crate that isn't seen here.
     pub fn deadline(self, now: i64) -> i64
         requires { (pos 0 ≤ℤ now) × (now ≤ℤ pos (2 ^ 61)) }
         ensures value { result ≡ deadline_at now self }

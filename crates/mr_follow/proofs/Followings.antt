@@ -5,7 +5,7 @@ use Rattle.std.proofs.lemmas.List.Elements.{All-head, All-tail}
 use Rattle.mr_data.specs.Meaning.{apply_all}
 use Rattle.mr_effect.specs.declared.effect.Effect.{Effect}
 use Rattle.mr_entries.specs.Dataset.{Dataset}
-use Rattle.mr_peer_lines.specs.Lines.{most_counted}
+use Rattle.mr_repl.specs.Backlog.{offset_limit}
 use Rattle.mr_follow.specs.Handshake.{IsGreeting}
 use Rattle.mr_groups.specs.Groups.{IsGoodGroup, group_text, group_texts}
 use Rattle.mr_groups.specs.Folding.{IsTorn, apply_groups}
@@ -122,7 +122,7 @@ no_front : (xs ys : List ℕ) → xs ++ ys ≡ [] → xs ≡ []
 no_front [] ys e = refl
 no_front (x ∷ xs) ys e = absurd (omega (arith, ap length e))
 
-not_refused : (gs : List (List Effect)) (kept later : List ℕ) (m : Dataset) (offset room : ℕ) → IsStream gs m offset → group_texts gs ≡ kept ++ later → offset + room ≡ most_counted → IsRefusedFront room m kept → ⊥
+not_refused : (gs : List (List Effect)) (kept later : List ℕ) (m : Dataset) (offset room : ℕ) → IsStream gs m offset → group_texts gs ≡ kept ++ later → offset + room ≡ offset_limit → IsRefusedFront room m kept → ⊥
 not_refused [] kept later m offset room s split limit r = let some = r.some in omega (arith, some, ap length (no_front kept later (sym split)))
 not_refused (g ∷ gs) kept later m offset room s split limit r =
     let parts = then_some (apply_all g m) (apply_groups gs) s.last s.applied in

@@ -7,7 +7,8 @@ use Rattle.mr_resp.specs.Command.{IsCommandText}
 use Rattle.mr_resp.specs.Usual.{commands}
 use Rattle.mr_resp.specs.Spelling.{line_end}
 use Rattle.mr_entries.specs.Dataset.{Dataset}
-use Rattle.mr_peer_lines.specs.Lines.{Line, status, refusal, size, IsLineText, IsPeerLine, Says, most_counted}
+use Rattle.mr_repl.specs.Backlog.{offset_limit}
+use Rattle.mr_peer_lines.specs.Lines.{Line, status, refusal, size, IsLineText, IsPeerLine, Says}
 use Rattle.mr_repl.specs.ReplId.{digits_of}
 use Rattle.mr_peer_lines.specs.Replies.{IsReplyText, place_text}
 use Rattle.mr_peer_lines.specs.declared.psync.PsyncReply.{PsyncReply}
@@ -331,7 +332,7 @@ some_out a b t there good is =
       ),
     )
 
-said_size : (front : List ℕ) (n : ℕ) → Says front (size n) → n ≤ most_counted
+said_size : (front : List ℕ) (n : ℕ) → Says front (size n) → n ≤ offset_limit
 said_size front n h = h.1
 
 -- .. or the line of a length is
@@ -565,7 +566,7 @@ follow_idle a m n offset room before after streams h = at_unread a m offset (Ok 
 })
 
 -- the group at the front isn't used
-abbrev at_group : (a : FollowState) (room offset used : ℕ) (es : List Effect) → a.phase ≡ phase.Stream → offset + room ≡ most_counted → Agrees a a.kept → IsFirstGroup a.kept es used → used ≤ room → BeginsGroup a a.kept offset a
+abbrev at_group : (a : FollowState) (room offset used : ℕ) (es : List Effect) → a.phase ≡ phase.Stream → offset + room ≡ offset_limit → Agrees a a.kept → IsFirstGroup a.kept es used → used ≤ room → BeginsGroup a a.kept offset a
 at_group a room offset used es streams all ag first few = record {
   streams = streams;
   unread = ag;
@@ -576,7 +577,7 @@ at_group a room offset used es streams all ag first few = record {
   within = omega (arith, few, all, ap length first.is_text, length-take-le used a.kept first.within);
 }
 
-follow_fails : (a : FollowState) (m n : Dataset) (offset room : ℕ) (f : FollowFault) (before after : List ℕ) → a.phase ≡ phase.Stream → offset + room ≡ most_counted → AppliesFront a.kept room m (Err f) n before after
+follow_fails : (a : FollowState) (m n : Dataset) (offset room : ℕ) (f : FollowFault) (before after : List ℕ) → a.phase ≡ phase.Stream → offset + room ≡ offset_limit → AppliesFront a.kept room m (Err f) n before after
     → Agrees a a.kept → Steps a a.kept m offset (Err f) a n before after
 follow_fails a m n offset room fault.BadLine before after streams all h ag = absurd h
 follow_fails a m n offset room fault.Refused before after streams all h ag = absurd h
@@ -611,11 +612,11 @@ follow_fails a m n offset room fault.Torn before after streams all h ag =
       row = record { at = at_group a room offset s.used s.group streams all ag s.first s.within; torn = s.torn; waits = refl; offer = refl; port = refl; silent = refl };
     }
 
-pub follow_fault : (a : FollowState) (m n : Dataset) (offset room : ℕ) (f : FollowFault) (before after : List ℕ) → a.phase ≡ phase.Stream → offset + room ≡ most_counted → AppliesFront a.kept room m (Err f) n before after
+pub follow_fault : (a : FollowState) (m n : Dataset) (offset room : ℕ) (f : FollowFault) (before after : List ℕ) → a.phase ≡ phase.Stream → offset + room ≡ offset_limit → AppliesFront a.kept room m (Err f) n before after
     → (u : List ℕ) → Agrees a u → Steps a u m offset (Err f) a n before after
 follow_fault a m n offset room f before after streams all h = at_unread a m offset (Err f) a n before after streams (follow_fails a m n offset room f before after streams all h)
 
-pub follow_applied : (a b : FollowState) (m n : Dataset) (offset room used : ℕ) (before after : List ℕ) → a.phase ≡ phase.Stream → offset + room ≡ most_counted → AppliesFront a.kept room m (Ok (Some used)) n before after
+pub follow_applied : (a b : FollowState) (m n : Dataset) (offset room used : ℕ) (before after : List ℕ) → a.phase ≡ phase.Stream → offset + room ≡ offset_limit → AppliesFront a.kept room m (Ok (Some used)) n before after
     → b ≡ record a { phase = phase.Stream; taking = None; kept = drop used a.kept } → (u : List ℕ) → Agrees a u → Steps a u m offset (Ok heard.Applied) b n before after
 follow_applied a b m n offset room used before after streams all h is = at_unread a m offset (Ok heard.Applied) b n before after streams (λ ag. record {
   told = take used a.kept;

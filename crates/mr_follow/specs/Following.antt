@@ -2,7 +2,8 @@
 use Rattle.std.specs.Prelude.{◌≡◌, ℕ, ◌+◌, ◌≤◌, List, [], ◌∷◌, ◌++◌, length, All, Some, Ok, Err}
 use Rattle.mr_effect.specs.declared.effect.Effect.{Effect}
 use Rattle.mr_entries.specs.Dataset.{Dataset}
-use Rattle.mr_peer_lines.specs.Lines.{most_counted, size, IsPeerLine}
+use Rattle.mr_repl.specs.Backlog.{offset_limit}
+use Rattle.mr_peer_lines.specs.Lines.{size, IsPeerLine}
 use Rattle.mr_groups.specs.Groups.{IsGoodGroup, group_texts}
 use Rattle.mr_groups.specs.Folding.{apply_groups}
 use Rattle.mr_follow.specs.State.{FollowState, heard}
@@ -43,7 +44,7 @@ pub record IsStream (groups : List (List Effect)) (m : Dataset) (offset : ℕ) :
   pub last : Dataset
   pub applied : apply_groups groups m ≡ Some last
   pub good : All IsGoodGroup groups
-  pub within : offset + length (group_texts groups) ≤ most_counted
+  pub within : offset + length (group_texts groups) ≤ offset_limit
 
 -- Of these groups the first were applied, and the bytes left to read are behind their texts.
 pub record HasFollowed (groups : List (List Effect)) (bytes : List ℕ) (m : Dataset) (offset : ℕ) (b : FollowState) (n : Dataset) (end : ℕ) : Type 0 where

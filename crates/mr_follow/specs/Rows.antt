@@ -9,7 +9,8 @@ use Rattle.std.specs.List.{AllByRecursion}
 use Rattle.mr_resp.specs.Command.{IsCommandText}
 use Rattle.mr_resp.specs.Usual.{commands}
 use Rattle.mr_entries.specs.Dataset.{Dataset}
-use Rattle.mr_peer_lines.specs.Lines.{Line, status, refusal, size, IsLineText, most_counted}
+use Rattle.mr_repl.specs.Backlog.{offset_limit}
+use Rattle.mr_peer_lines.specs.Lines.{Line, status, refusal, size, IsLineText}
 use Rattle.mr_peer_lines.specs.Replies.{IsReplyText}
 use Rattle.mr_peer_lines.specs.declared.psync.PsyncReply.{PsyncReply}
 use Rattle.mr_peer_lines.specs.declared.psync.PsyncReply.TheVariants as reply
@@ -83,7 +84,7 @@ pub record Follows (a : FollowState) (u : List ℕ) (m : Dataset) (offset : ℕ)
   pub is_text : told ≡ group_text group
   pub rest : List ℕ
   pub begins : u ≡ told ++ rest
-  pub within : offset + length told ≤ most_counted
+  pub within : offset + length told ≤ offset_limit
   pub applied : apply_all group m ≡ Some n
   pub state : Moves a phase.Stream rest b
 
@@ -135,7 +136,7 @@ pub record IsBadSnapshot (a : FollowState) (u : List ℕ) : Type 0 where
 pub record IsBadStream (a : FollowState) (u : List ℕ) (m : Dataset) (offset : ℕ) : Type 0 where
   pub streams : a.phase ≡ phase.Stream
   pub room : ℕ
-  pub limit : offset + room ≡ most_counted
+  pub limit : offset + room ≡ offset_limit
   pub refused : IsRefusedFront room m u
 
 -- The bytes begin with the line of a snapshot's length. Bytes behind it make this dataset, so many of the snapshot are to come,
@@ -153,7 +154,7 @@ LacksWithin u kept = (m : Dataset) × ((left : ℕ) × (IsAmid u m left kept × 
 
 -- a command text begins the stream that leads up to the offset limit at most
 abbrev pub LacksBelow : ℕ → List ℕ → Type 0
-LacksBelow offset u = (room : ℕ) × ((offset + room ≡ most_counted) × HasCommand u room)
+LacksBelow offset u = (room : ℕ) × ((offset + room ≡ offset_limit) × HasCommand u room)
 
 -- where memory can be lacking: behind an answer to a line of the handshake, for a command text in a snapshot that is the next to
 -- be done, for the commands that rebuild a whole one, and for a command text of the stream
@@ -173,7 +174,7 @@ pub record BeginsGroup (a : FollowState) (u : List ℕ) (offset : ℕ) (b : Foll
   pub good : IsGoodGroup group
   pub rest : List ℕ
   pub begins : u ≡ group_text group ++ rest
-  pub within : offset + length (group_text group) ≤ most_counted
+  pub within : offset + length (group_text group) ≤ offset_limit
 
 -- Memory ran out within such a group, whose first effect can be applied and of which one takes some: the dataset is spent.
 pub record SpendsHeld (a : FollowState) (u : List ℕ) (m : Dataset) (offset : ℕ) (b : FollowState) (n : Dataset) : Type 0 where

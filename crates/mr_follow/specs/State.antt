@@ -1,7 +1,8 @@
 -- What a contract sees of a follower.
 use Rattle.std.specs.Prelude.{◌≡◌, ℕ, ◌+◌, ◌≤◌, List, [], ◌++◌, length, Option, Some, None, IfSome, refl}
 use Rattle.std.specs.Coded.{Coded, code_by, coded×, coded_ℕ, coded_list, coded_option}
-use Rattle.mr_peer_lines.specs.Lines.{most, most_counted, size, IsPeerLine}
+use Rattle.mr_repl.specs.Backlog.{offset_limit}
+use Rattle.mr_peer_lines.specs.Lines.{most, size, IsPeerLine}
 use Rattle.mr_repl.specs.ReplId.{IsId}
 use Rattle.mr_replay.specs.Effects.{Makes}
 use Rattle.mr_follow.specs.contracts.phase.Phase as waited
@@ -27,7 +28,7 @@ follow_code = code_by (Phase × (Option (List ℕ × ℕ) × (ℕ × (Option Tak
 
 -- the id of what it has to go on from is one, and its offset is within the limit
 abbrev pub IsOffer : Option (List ℕ × ℕ) → Type 0
-IsOffer offer = IfSome offer (λ o. IsId o.0 × (o.1 ≤ most_counted))
+IsOffer offer = IfSome offer (λ o. IsId o.0 × (o.1 ≤ offset_limit))
 
 -- the id of a snapshot that is announced is one, and its offset is within the limit
 abbrev pub IsPlaced : Phase → Type 0
@@ -35,13 +36,13 @@ IsPlaced Ping = Unit {0}
 IsPlaced Port = Unit {0}
 IsPlaced Capabilities = Unit {0}
 IsPlaced Psync = Unit {0}
-IsPlaced (Snapshot id offset) = IsId id × (offset ≤ most_counted)
+IsPlaced (Snapshot id offset) = IsId id × (offset ≤ offset_limit)
 IsPlaced Stream = Unit {0}
 
 -- no more was taken of a snapshot than it has, and its line has no more bytes than a line may
 pub record IsTaking (t : Taking) : Type 0 where
   pub head : t.head ≤ most + 2
-  pub size : t.size ≤ most_counted
+  pub size : t.size ≤ offset_limit
   pub done : t.done ≤ t.size
 
 pub record IsFollower (a : FollowState) : Type 0 where

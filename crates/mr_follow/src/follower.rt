@@ -1,7 +1,7 @@
 //! The follower.
 ghost use Rattle.std.specs.Prelude.{◌≡◌, ◌≤◌, ◌++◌, ℕ, List, [], length, drop, OnOk, OnErr, None, Some};
 ghost use Rattle.mr_entries.specs.Dataset.{Dataset as Held};
-ghost use Rattle.mr_peer_lines.specs.Lines.{most_counted};
+ghost use Rattle.mr_repl.specs.Backlog.{offset_limit};
 ghost use Rattle.mr_follow.specs.Handshake.{ping_line, IsGreeting};
 ghost use Rattle.mr_follow.specs.Lines.{HasAnswer};
 ghost use Rattle.mr_follow.specs.declared.phase.Phase.TheVariants as waits;
@@ -14,13 +14,10 @@ use crate::taking::{Pause, Taking, go_on};
 use crate::{FollowFault, Heard, Phase};
 use mr_data::Dataset;
 use mr_peer_lines::PsyncReply;
-use mr_repl::ReplId;
+use mr_repl::{OFFSET_LIMIT, ReplId};
 use std::alloc::{AllocError, Global};
 use std::hash::RandomState;
 use std::marker::Model;
-
-/// The greatest offset.
-const MOST: u64 = 1 << 62;
 
 /// A replica's end of its master's link: it answers the handshake, makes a dataset of a snapshot as it comes, which it hands
 /// over with the last byte, and applies the stream, a group of effects at a step.
@@ -130,7 +127,7 @@ impl Follower {
         offset: u64,
         out: &mut Vec<u8>,
     ) -> Result<Heard, FollowFault>
-        requires { offset ≤ most_counted }
+        requires { offset ≤ offset_limit }
         ensures { (u : List ℕ) → Agrees self.old u → Steps self.old u held.old offset result self.new held.new out.old.items out.new.items }
     {
         match self.phase {
@@ -283,10 +280,10 @@ impl Follower {
         out: &mut Vec<u8>,
     ) -> Result<Heard, FollowFault>
         requires streams { self.old.phase ≡ waits.Stream }
-        requires countable { offset ≤ most_counted }
+        requires countable { offset ≤ offset_limit }
         ensures { (u : List ℕ) → Agrees self.old u → Steps self.old u held.old offset result self.new held.new out.old.items out.new.items }
     {
-        let room = MOST - offset;
+        let room = OFFSET_LIMIT - offset;
         let Some(used) = apply_front(alloc, &mut self.inbox, room, held, out)? else {
             return Ok(Heard::Idle);
         };

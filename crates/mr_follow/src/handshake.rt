@@ -1,5 +1,4 @@
 ghost use Rattle.std.specs.Prelude.{◌≡◌, ◌++◌, ◌≤◌, ◌∷◌, [], OnOk, OnErr};
-ghost use Rattle.mr_peer_lines.specs.Lines.{most_counted};
 ghost use Rattle.mr_resp.specs.Spelling.{array};
 ghost use Rattle.mr_follow.specs.Handshake.{ping_line, line_after, next_of, psync_line};
 ghost use Rattle.mr_follow.specs.State.{IsOffer};

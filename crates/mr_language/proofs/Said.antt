@@ -5,7 +5,8 @@ use Rattle.std.proofs.lemmas.Fmt.{decimal_injective}
 use Rattle.std.proofs.lemmas.List.{append_cancel_left}
 use Rattle.mr_resp.specs.Spelling.{line_end}
 use Rattle.mr_repl.specs.ReplId.{IsId, digits_of}
-use Rattle.mr_peer_lines.specs.Lines.{status, refusal, size, IsLineText, IsPeerLine, most_counted}
+use Rattle.mr_repl.specs.Backlog.{offset_limit}
+use Rattle.mr_peer_lines.specs.Lines.{status, refusal, size, IsLineText, IsPeerLine}
 use Rattle.mr_peer_lines.specs.Lines as peers
 use Rattle.mr_peer_lines.specs.Replies.{place_text, reply_text, IsReplyText}
 use Rattle.mr_peer_lines.specs.declared.psync.PsyncReply.TheVariants as reply
@@ -25,7 +26,7 @@ full_or_more : (i j : List ℕ) (o : ℕ) → reply_text (reply.FullResync i o) 
 unfolding first
 full_or_more i j o e = let h : 70 ≡ 67 = ap first e in omega (arith, h)
 
-same_place : (i j : List ℕ) (o p : ℕ) → IsId i → IsId j → o ≤ most_counted → p ≤ most_counted → place_text i o ≡ place_text j p → (i ≡ j) × (o ≡ p)
+same_place : (i j : List ℕ) (o p : ℕ) → IsId i → IsId j → o ≤ offset_limit → p ≤ offset_limit → place_text i o ≡ place_text j p → (i ≡ j) × (o ≡ p)
 same_place i j o p g h l m both =
     let ids = same_length (digits_of i) (digits_of j) (32 ∷ decimal o) (32 ∷ decimal p) (forty i g ∙ sym (forty j h)) both in
     let rest = append_cancel_left (digits_of j) (32 ∷ decimal o) (32 ∷ decimal p) (ap (λ z. z ++ (32 ∷ decimal o)) (sym ids) ∙ both) in

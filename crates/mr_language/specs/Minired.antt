@@ -9,9 +9,9 @@ use Rattle.mr_effect.specs.declared.effect.Effect.{Effect}
 use Rattle.mr_entries.specs.Dataset.{Dataset}
 use Rattle.mr_data.specs.Meaning.{apply_all}
 use Rattle.mr_data.specs.declared.given.Given.{Given}
+use Rattle.mr_repl.specs.Backlog.{offset_limit}
 use Rattle.mr_groups.specs.Groups.{IsGoodGroup, group_text}
 use Rattle.mr_history.specs.Language.{Language}
-use Rattle.mr_peer_lines.specs.Lines.{most_counted}
 use Rattle.mr_language.specs.Changes.{HasEffects, IsDue, Leads}
 use Rattle.mr_language.specs.Lines.{Says}
 use Rattle.mr_language.specs.Requests.{IsAsked}
@@ -27,7 +27,7 @@ minired = record {
   apply = apply_all;
   text = group_text;
   IsGood = IsGoodGroup;
-  limit = most_counted;
+  limit = offset_limit;
   Given = Given;
   effects = HasEffects;
   due = IsDue;

@@ -1,13 +1,16 @@
-ghost use Rattle.std.specs.Prelude.{◌≡◌, ◌+◌, ◌^◌, ◌<◌, ◌↔◌, Some, None, IfOk, IfErr, OnOk, OnErr, IsSome, IsTrue, option_copied};
+ghost use Rattle.std.specs.Prelude.{◌≡◌, ◌+◌, ◌<◌, ◌↔◌, Some, None, IfOk, IfErr, OnOk, OnErr, IsSome, IsTrue, option_copied};
 ghost use Rattle.std.specs.Option.{option_copied_mut};
 ghost use Rattle.std.specs.FinMap as map;
-ghost use Rattle.mr_links.specs.Links.{AreBelow};
+ghost use Rattle.mr_links.specs.Links.{AreBelow, links_limit};
 
 use crate::rows::Rows;
 use crate::{Ids, Iter, LinkId};
 use std::alloc::{AllocFailed, Allocator, Global};
 use std::marker::Model;
 use std::mem;
+
+/// At most so many links are ever opened.
+pub const LINKS_LIMIT: u64 = 1 << 62;
 
 /// Open links by their ids. Each link that was ever opened has an id of its own, which is not used again once the
 /// link is removed; one that is taken back counts as never opened. Only `insert` takes memory.
@@ -54,7 +57,7 @@ impl<T, A: Allocator> Links<T, A> {
 
     /// Opens a link under a new id, whose generation is the number of links that were opened before.
     pub fn insert(&mut self, link: T) -> Result<LinkId, AllocFailed<T>>
-        requires { self.old.opened < 2 ^ 62 }
+        requires { self.old.opened < links_limit }
         ensures generation { IfOk result (λ id. id.generation ≡ self.old.opened) }
         ensures fresh { IfOk result (λ id. map.get self.old.open_links id ≡ None) }
         ensures inserted { IfOk result (λ id. self.new.open_links ≡ map.insert self.old.open_links id link) }

@@ -9,7 +9,7 @@ use clap::{Arg, Command};
 use mr_repl::MOST_BACKLOG;
 use std::alloc::{AllocError, Global};
 
-/// The greatest time, in milliseconds.
+/// The greatest time, in milliseconds: `LAST_MOMENT` of `mr_data`, a crate that isn't seen here.
 const MOST_NOW: u64 = 1 << 61;
 
 /// The greatest port.

@@ -8,7 +8,7 @@ use Rattle.mr_bytes.specs.Number.{number_of}
 use Rattle.mr_bytes.proofs.Numbers.{number_is, number_text}
 use Rattle.mr_repl.specs.ReplId.{IsId, digits_of, is_lower_digit}
 use Rattle.mr_repl.proofs.IdTexts.{texts_are_forty}
-use Rattle.mr_peer_lines.specs.Lines.{most_counted}
+use Rattle.mr_repl.specs.Backlog.{offset_limit}
 use Rattle.mr_peer_lines.specs.Replies.{place_text, IsPlaceText, IsReplyText}
 use Rattle.mr_peer_lines.specs.declared.psync.PsyncReply.{PsyncReply}
 use Rattle.mr_peer_lines.specs.declared.psync.PsyncReply.TheVariants as reply
@@ -42,18 +42,18 @@ id_or x = go (number_or (length x) 40) (all_or is_lower_digit x)
     go (inl l) (inr n) = inr (λ h. n ((texts_are_forty x).1 h).digits)
 
 abbrev pub IsCount : List ℕ → Type 0
-IsCount x = (o : ℕ) × (o ≤ most_counted) × (x ≡ decimal o)
+IsCount x = (o : ℕ) × (o ≤ offset_limit) × (x ≡ decimal o)
 
 count_or : (x : List ℕ) → Settled (IsCount x)
 count_or x = go (number_of x) refl
   where
-    none : (o : Option ℤ) → number_of x ≡ o → ((n : ℕ) → n ≤ most_counted → o ≢ Some (pos n)) → IsCount x → ⊥
+    none : (o : Option ℤ) → number_of x ≡ o → ((n : ℕ) → n ≤ offset_limit → o ≢ Some (pos n)) → IsCount x → ⊥
     none o e n c = n c.0 c.1 (sym e ∙ number_is x (pos c.0) (small c.0 c.1) c.2)
 
-    few_or : (n : ℕ) → (n ≤ most_counted) ⊎ (most_counted < n)
+    few_or : (n : ℕ) → (n ≤ offset_limit) ⊎ (offset_limit < n)
     few_or n = grind arith
 
-    whole : (n : ℕ) → number_of x ≡ Some (pos n) → (n ≤ most_counted) ⊎ (most_counted < n) → Settled (IsCount x)
+    whole : (n : ℕ) → number_of x ≡ Some (pos n) → (n ≤ offset_limit) ⊎ (offset_limit < n) → Settled (IsCount x)
     whole n e (inl h) = inl (n, h, (number_text x (pos n) e).0)
     whole n e (inr h) = inr (none (Some (pos n)) e (λ k few q. let same : n ≡ k = pos_is n k q in omega (arith, h, few, same)))
       where

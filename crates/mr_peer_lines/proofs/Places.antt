@@ -11,23 +11,23 @@ use Rattle.mr_repl.specs.ReplId.{IsId, digits_of}
 use Rattle.mr_repl.proofs.IdTexts.{texts_are_forty}
 use Rattle.mr_bytes.specs.Number.{is_i64, number_of}
 use Rattle.mr_bytes.proofs.Numbers.{number_of-signed_decimal}
-use Rattle.mr_peer_lines.specs.Lines.{most_counted}
+use Rattle.mr_repl.specs.Backlog.{offset_limit}
 use Rattle.mr_peer_lines.specs.Replies.{place_text, IsPlaceText, IsReplyText}
 use Rattle.mr_peer_lines.specs.declared.psync.PsyncReply.{PsyncReply}
 use Rattle.mr_peer_lines.specs.declared.psync.PsyncReply.TheVariants.{FullResync, Continue}
 
 -- ---- numbers
-pub small : (n : ℕ) → n ≤ most_counted → is_i64 (pos n) ≡ true
+pub small : (n : ℕ) → n ≤ offset_limit → is_i64 (pos n) ≡ true
 small n few = grind (arith, nat_tests, few)
 
 -- a text that is a number's, and that of a number from 0 on, is of one number
-pub one_number : (text : List ℕ) (z : ℤ) (n : ℕ) → n ≤ most_counted → number_of text ≡ Some z → text ≡ decimal n → z ≡ pos n
+pub one_number : (text : List ℕ) (z : ℤ) (n : ℕ) → n ≤ offset_limit → number_of text ≡ Some z → text ≡ decimal n → z ≡ pos n
 one_number text z n few found is =
     let same : Some z ≡ Some (pos n) = sym found ∙ ap number_of is ∙ number_of-signed_decimal (pos n) (small n few) in
     cc
 
 -- what was made of a number from 0 on
-pub fits_count : (z : ℤ) (n : ℕ) → z ≡ pos n → n ≤ most_counted → to_z w64 (of_z w64 z) ≡ pos n
+pub fits_count : (z : ℤ) (n : ℕ) → z ≡ pos n → n ≤ offset_limit → to_z w64 (of_z w64 z) ≡ pos n
 fits_count z n e few = ap (λ (y : ℤ). to_z w64 (of_z w64 y)) e ∙ to_z-of_z w64 (pos n) (record { sfits = omega arith })
 
 pub not_none : {E : Type 0} (r : Result ℕ E) (P : Type 0) (v : ℕ) → OkIff r P v → P → result_ok r ≡ None → ⊥

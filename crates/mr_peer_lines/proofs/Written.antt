@@ -10,8 +10,9 @@ use Rattle.mr_resp.specs.Spelling.{line_end}
 use Rattle.mr_resp.proofs.Digits.{decimal_digits}
 use Rattle.mr_repl.specs.ReplId.{IsId, IsIdText, is_lower_digit, digits_of}
 use Rattle.mr_repl.proofs.IdTexts.{texts_are_forty}
+use Rattle.mr_repl.specs.Backlog.{offset_limit}
 use Rattle.mr_peer_lines.specs.Bytes.{ends_line}
-use Rattle.mr_peer_lines.specs.Lines.{IsLine, IsMarked, IsPeerLine, size, most_counted}
+use Rattle.mr_peer_lines.specs.Lines.{IsLine, IsMarked, IsPeerLine, size}
 use Rattle.mr_peer_lines.specs.Replies.{IsReply, reply_text, place_text}
 use Rattle.mr_peer_lines.specs.declared.psync.PsyncReply.{PsyncReply}
 use Rattle.mr_peer_lines.specs.declared.psync.PsyncReply.TheVariants.{FullResync, Continue}
@@ -46,10 +47,10 @@ plain_both : (xs ys : List ℕ) → AllPass is_plain xs → AllPass is_plain ys 
 plain_both [] ys h k = k
 plain_both (x ∷ xs) ys h k = All-cons IsPlain x (xs ++ ys) (All-head IsPlain x xs h) (plain_both xs ys (All-tail IsPlain x xs h) k)
 
-pub decimal_plain : (n : ℕ) → n ≤ most_counted → AllPass is_plain (decimal n)
+pub decimal_plain : (n : ℕ) → n ≤ offset_limit → AllPass is_plain (decimal n)
 decimal_plain n h = digits_plain (decimal n) (decimal_digits n (omega arith))
 
-pub decimal_short : (n : ℕ) → n ≤ most_counted → length (decimal n) ≤ 20
+pub decimal_short : (n : ℕ) → n ≤ offset_limit → length (decimal n) ≤ 20
 decimal_short n h = length-decimal-le 20 n (omega arith) (omega arith) (omega arith)
 
 id_text : (id : List ℕ) → IsId id → IsIdText (digits_of id)
@@ -67,14 +68,14 @@ continue_word = AllPass-from_list_all is_plain (codes "CONTINUE ") refl
 id_long : (id : List ℕ) → IsId id → length (digits_of id) ≡ 40
 id_long id i = (id_text id i).long
 
-place_plain : (id : List ℕ) (n : ℕ) → IsId id → n ≤ most_counted → AllPass is_plain (place_text id n)
+place_plain : (id : List ℕ) (n : ℕ) → IsId id → n ≤ offset_limit → AllPass is_plain (place_text id n)
 place_plain id n i h = plain_both (digits_of id) (32 ∷ decimal n) (id_plain id i) (All-cons IsPlain 32 (decimal n) refl (decimal_plain n h))
 
 reply_plain : (r : PsyncReply) → IsReply r → AllPass is_plain (reply_text r)
 reply_plain (FullResync id n) i = plain_both (codes "FULLRESYNC ") (place_text id n) full_word (place_plain id n i.0 i.1)
 reply_plain (Continue id) i = plain_both (codes "CONTINUE ") (digits_of id) continue_word (id_plain id i)
 
-place_short : (id : List ℕ) (n : ℕ) → IsId id → n ≤ most_counted → length (place_text id n) ≤ 61
+place_short : (id : List ℕ) (n : ℕ) → IsId id → n ≤ offset_limit → length (place_text id n) ≤ 61
 place_short id n i h = let long = id_long id i in let all = length-append (digits_of id) (32 ∷ decimal n) in let few = decimal_short n h in omega (arith, long, all, few)
 
 reply_short : (r : PsyncReply) → IsReply r → length (reply_text r) ≤ 72
@@ -93,7 +94,7 @@ says_reply r i = let few = reply_short r i in record {
   reads = (i, refl);
 }
 
-pub says_length : (n : ℕ) → n ≤ most_counted → IsPeerLine (length_line n) (size n)
+pub says_length : (n : ℕ) → n ≤ offset_limit → IsPeerLine (length_line n) (size n)
 unfolding length_line
 says_length n h = let few = decimal_short n h in
     record { front = 36 ∷ decimal n; whole = line_is (36 ∷ decimal n) refl (All-cons IsPlain 36 (decimal n) refl (decimal_plain n h)) (omega (arith, few)); says = (refl, h) }

@@ -1,9 +1,10 @@
 -- The lines that one node sends to another: an answer, a refusal, or the length of a snapshot.
-use Rattle.std.specs.Prelude.{◌≡◌, ℕ, ◌≤◌, ◌⊎◌, ◌^◌, true, not, List, [], ◌∷◌, ◌++◌, length, take}
+use Rattle.std.specs.Prelude.{◌≡◌, ℕ, ◌≤◌, ◌⊎◌, true, not, List, [], ◌∷◌, ◌++◌, length, take}
 use Rattle.std.specs.List.{AllPass}
 use Rattle.std.specs.Fmt.{decimal}
 use Rattle.mr_inline.specs.Language.{Continues, IsDoomed}
 use Rattle.mr_resp.specs.Spelling.{line_end}
+use Rattle.mr_repl.specs.Backlog.{offset_limit}
 use Rattle.mr_peer_lines.specs.Bytes.{plus, minus, dollar, ends_line, is_mark}
 use Rattle.mr_peer_lines.specs.declared.line.PeerLine.{PeerLine}
 use Rattle.mr_peer_lines.specs.declared.line.PeerLine.TheVariants as shown
@@ -13,10 +14,6 @@ use Rattle.mr_peer_lines.specs.declared.line.PeerLineScan.TheVariants.{Whole, Mo
 -- the most bytes before a line's end
 abbrev pub most : ℕ
 most = 1024
-
--- no offset is greater, and no length
-abbrev pub most_counted : ℕ
-most_counted = 2 ^ 62
 
 -- one of the marks stands first
 abbrev pub IsMarked : List ℕ → Type 0
@@ -39,11 +36,11 @@ pub data Line : Type 0 where
   refusal : List ℕ → Line
   size : ℕ → Line
 
--- what stands before the end of a line that says this
+-- What stands before the end of a line that says this: a length goes no further than an offset.
 abbrev pub Says : List ℕ → Line → Type 0
 Says front (status text) = front ≡ plus ∷ text
 Says front (refusal text) = front ≡ minus ∷ text
-Says front (size n) = (front ≡ dollar ∷ decimal n) × (n ≤ most_counted)
+Says front (size n) = (front ≡ dollar ∷ decimal n) × (n ≤ offset_limit)
 
 -- a line that says this
 pub record IsPeerLine (text : List ℕ) (line : Line) : Type 0 where

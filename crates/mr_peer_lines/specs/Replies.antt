@@ -2,8 +2,8 @@
 use Rattle.std.specs.Prelude.{◌≡◌, ℕ, ◌≤◌, List, ◌∷◌, ◌++◌, codes, Option, MatchOption}
 use Rattle.std.specs.Fmt.{decimal}
 use Rattle.mr_repl.specs.ReplId.{IsId, digits_of}
+use Rattle.mr_repl.specs.Backlog.{offset_limit}
 use Rattle.mr_peer_lines.specs.Bytes.{space}
-use Rattle.mr_peer_lines.specs.Lines.{most_counted}
 use Rattle.mr_peer_lines.specs.declared.psync.PsyncReply.{PsyncReply}
 use Rattle.mr_peer_lines.specs.declared.psync.PsyncReply.TheVariants.{FullResync, Continue}
 
@@ -13,7 +13,7 @@ place_text id offset = digits_of id ++ space ∷ decimal offset
 
 -- the text of this place, its id one, and its offset within the limit
 abbrev pub IsPlaceText : List ℕ → List ℕ → ℕ → Type 0
-IsPlaceText text id offset = (IsId id × (offset ≤ most_counted)) × (text ≡ place_text id offset)
+IsPlaceText text id offset = (IsId id × (offset ≤ offset_limit)) × (text ≡ place_text id offset)
 
 -- one space between the words, and nothing behind the last
 abbrev pub reply_text : PsyncReply → List ℕ
@@ -22,7 +22,7 @@ reply_text (Continue id) = codes "CONTINUE " ++ digits_of id
 
 -- its id is one, and its offset within the limit
 abbrev pub IsReply : PsyncReply → Type 0
-IsReply (FullResync id offset) = IsId id × (offset ≤ most_counted)
+IsReply (FullResync id offset) = IsId id × (offset ≤ offset_limit)
 IsReply (Continue id) = IsId id
 
 -- the text of this answer

@@ -2,7 +2,8 @@
 ghost use Rattle.std.specs.Prelude.{◌≡◌, ◌≤◌, ◌++◌, OnOk, OnErr};
 ghost use Rattle.std.specs.List.{flat_map};
 ghost use Rattle.mr_resp.specs.Appends.{Extends};
-ghost use Rattle.mr_peer_lines.specs.Lines.{IsPeerLine, most_counted, size};
+ghost use Rattle.mr_repl.specs.Backlog.{offset_limit};
+ghost use Rattle.mr_peer_lines.specs.Lines.{IsPeerLine, size};
 ghost use Rattle.mr_peer_lines.specs.Written.{length_line, reply_line, SaysReply};
 ghost use Rattle.mr_peer_lines.specs.declared.psync.PsyncReply.TheVariants as reply;
 
@@ -13,7 +14,7 @@ use std::alloc::AllocError;
 /// Appends the line by which a master answers PSYNC with a full resynchronization: a snapshot follows, of the stream under this id
 /// up to this offset in bytes. An `Err` changes nothing.
 pub fn write_full(id: ReplId, offset: u64, out: &mut Vec<u8>) -> Result<(), AllocError>
-    requires { offset ≤ most_counted }
+    requires { offset ≤ offset_limit }
     ensures ok { OnOk result (out.new.items ≡ out.old.items ++ reply_line (reply.FullResync id offset)) }
     ensures err { OnErr result (out.new.items ≡ out.old.items) }
     ensures says { SaysReply (reply_line (reply.FullResync id offset)) (reply.FullResync id offset) }
@@ -38,7 +39,7 @@ pub fn write_continue(id: ReplId, out: &mut Vec<u8>) -> Result<(), AllocError>
 
 /// Appends the line in front of a snapshot of so many bytes. No line end follows the snapshot. An `Err` changes nothing.
 pub fn write_length(length: u64, out: &mut Vec<u8>) -> Result<(), AllocError>
-    requires { length ≤ most_counted }
+    requires { length ≤ offset_limit }
     ensures ok { OnOk result (out.new.items ≡ out.old.items ++ length_line length) }
     ensures err { OnErr result (out.new.items ≡ out.old.items) }
     ensures says { IsPeerLine (length_line length) (size length) }

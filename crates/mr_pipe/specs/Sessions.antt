@@ -4,6 +4,7 @@ use Rattle.mr_resp.specs.Replies.{Tree, array, reply_text}
 use Rattle.mr_entries.specs.Dataset.{Dataset}
 use Rattle.mr_effect.specs.declared.effect.Effect.{Effect}
 use Rattle.mr_data.specs.declared.given.Given.{Given}
+use Rattle.mr_repl.specs.Backlog.{offset_limit}
 use Rattle.mr_groups.specs.Groups.{grown_text}
 use Rattle.mr_cmd_node.specs.declared.node_ask.NodeAsk.TheVariants as node
 use Rattle.mr_room.specs.Answered.{done}
@@ -16,7 +17,6 @@ use Rattle.mr_ends.specs.State.{Transaction, begun}
 use Rattle.mr_outs.specs.Outs.{OutsState, Output, no_output, growth}
 use Rattle.mr_rows.specs.State.{Core}
 use Rattle.mr_rows.specs.Requests.{Asks, AsksNothing}
-use Rattle.mr_rows.specs.Growing.{offset_limit}
 use Rattle.mr_rows.specs.Telling.{Around, answer_about}
 use Rattle.mr_rows.specs.Served.{Served, says}
 use Rattle.mr_rows.specs.ClientRows.{AsksToHalt, Ends, IsAnswerToPsync}

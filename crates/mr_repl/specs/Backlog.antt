@@ -1,6 +1,10 @@
 -- What a contract sees of a backlog.
 use Rattle.std.specs.Prelude.{ℕ, ◌+◌, ◌-◌, ◌≤◌, ◌<◌, ◌^◌, List, [], ◌++◌, length, drop}
 
+-- no offset of a stream is greater
+abbrev pub offset_limit : ℕ
+offset_limit = 2 ^ 62
+
 -- so many bytes a backlog holds where nothing else is said
 abbrev pub usual_backlog : ℕ
 usual_backlog = 1048576
@@ -42,4 +46,4 @@ pub record IsWindow (w : Window) : Type 0 where
   pub counted : length w.held ≤ w.offset
   pub some_room : 0 < w.capacity
   pub limited : w.capacity ≤ 2 ^ 30
-  pub countable : w.offset ≤ 2 ^ 62
+  pub countable : w.offset ≤ offset_limit

@@ -1,9 +1,12 @@
 ghost use Rattle.std.specs.Prelude.{◌≡◌, ◌+◌, ◌^◌, ◌<◌, ◌≤◌, ◌↔◌, [], ◌++◌, length, drop, IsTrue, IfOk};
-ghost use Rattle.mr_repl.specs.Backlog.{IsWindow, empty_at, after_bytes, first_of, bytes_from};
+ghost use Rattle.mr_repl.specs.Backlog.{IsWindow, offset_limit, empty_at, after_bytes, first_of, bytes_from};
 
 use circular_buffer::HeapCircularBuffer;
 use std::alloc::{AllocError, Allocator, Global};
 use std::marker::Model;
+
+/// No offset of a stream is greater.
+pub const OFFSET_LIMIT: u64 = 1 << 62;
 
 /// A backlog holds so many bytes where nothing else is said.
 pub const USUAL_BACKLOG: usize = 1_048_576;
@@ -34,7 +37,7 @@ impl<A: Allocator> Backlog<A> {
     pub fn new(alloc: A, capacity: usize, offset: u64) -> Result<Self, AllocError>
         requires some_room { 0 < capacity }
         requires limited { capacity ≤ 2 ^ 30 }
-        requires countable { offset ≤ 2 ^ 62 }
+        requires countable { offset ≤ offset_limit }
         ensures { IfOk result (λ b. b ≡ empty_at capacity offset) }
     {
         let ring = HeapCircularBuffer::with_capacity(alloc, capacity)?;
@@ -43,7 +46,7 @@ impl<A: Allocator> Backlog<A> {
 
     /// Adds the next bytes of the stream. The oldest bytes give way where there isn't room for all.
     pub fn push(&mut self, bytes: &[u8])
-        requires { self.old.offset + length bytes.now ≤ 2 ^ 62 }
+        requires { self.old.offset + length bytes.now ≤ offset_limit }
         ensures { self.new ≡ after_bytes self.old bytes.now }
     {
         self.ring.extend_from_slice(bytes);
@@ -52,7 +55,7 @@ impl<A: Allocator> Backlog<A> {
 
     /// Drops all bytes, and goes on after this offset.
     pub fn restart(&mut self, offset: u64)
-        requires { offset ≤ 2 ^ 62 }
+        requires { offset ≤ offset_limit }
         ensures { self.new ≡ empty_at self.old.capacity offset }
     {
         self.ring.clear();

@@ -8,7 +8,7 @@ mod lineage;
 mod replication_id;
 mod standing;
 
-pub use backlog::{Backlog, MOST_BACKLOG, USUAL_BACKLOG};
+pub use backlog::{Backlog, MOST_BACKLOG, OFFSET_LIMIT, USUAL_BACKLOG};
 pub use decision::{PsyncAnswer, decide};
 pub use laws::{
     cuts_do_not_matter, held_is_the_end, old_id_ends_at_the_change, renaming_strands_nobody,

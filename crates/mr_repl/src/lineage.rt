@@ -1,4 +1,5 @@
 ghost use Rattle.std.specs.Prelude.{◌≡◌, ◌+◌, ◌^◌, ◌<◌, ◌≤◌, length, IfOk};
+ghost use Rattle.mr_repl.specs.Backlog.{offset_limit};
 ghost use Rattle.mr_repl.specs.Lineage.{begun, grown, renamed, continued, standing_of};
 
 use crate::{Backlog, ReplId, Standing};
@@ -32,7 +33,7 @@ impl<A: Allocator> Lineage<A> {
     pub fn new(alloc: A, id: ReplId, capacity: usize, offset: u64) -> Result<Self, AllocError>
         requires some_room { 0 < capacity }
         requires limited { capacity ≤ 2 ^ 30 }
-        requires countable { offset ≤ 2 ^ 62 }
+        requires countable { offset ≤ offset_limit }
         ensures { IfOk result (λ a. a ≡ begun id capacity offset) }
     {
         let stream = Backlog::new(alloc, capacity, offset)?;
@@ -79,7 +80,7 @@ impl<A: Allocator> Lineage<A> {
 
     /// Adds the next bytes of the stream.
     pub fn grow(&mut self, bytes: &[u8])
-        requires { self.old.stream.offset + length bytes.now ≤ 2 ^ 62 }
+        requires { self.old.stream.offset + length bytes.now ≤ offset_limit }
         ensures { self.new ≡ grown self.old bytes.now }
     {
         self.stream.push(bytes);
@@ -105,7 +106,7 @@ impl<A: Allocator> Lineage<A> {
 
     /// Another stream takes the place of this one: that under this id, from behind this offset on.
     pub fn adopt(&mut self, id: ReplId, offset: u64)
-        requires { offset ≤ 2 ^ 62 }
+        requires { offset ≤ offset_limit }
         ensures { self.new ≡ begun id self.old.stream.capacity offset }
     {
         self.id = id;

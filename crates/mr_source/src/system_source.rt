@@ -3,15 +3,13 @@ ghost use Rattle.mr_repl.specs.ReplId.{zero_id};
 ghost use Rattle.mr_data.specs.Given.{IsMoment};
 
 use crate::source::Source;
+use mr_data::LAST_MOMENT;
 use mr_repl::ReplId;
 use rand_core::{Rng, SeedableRng};
 use rand_xoshiro::Xoshiro256PlusPlus;
 use std::io;
 use std::random::RandomSource;
 use std::time::{SystemTime, UNIX_EPOCH};
-
-/// No moment is later.
-const LAST_MOMENT: i64 = 1 << 61;
 
 /// The system's clock, and chance from a generator that the system seeded once. None of it is a secret.
 #[derive(Drop)]

@@ -13,9 +13,9 @@ returns-in_err-number-clause-none c = rw c.from_residual-in_err-number.ensures (
     let same = fits_count z n (one_number c.args.text.now z n few (sym c.in_ok-read_i64.ensures.number) is) few in
     not_none c.try_from.result _ _ c.try_from.ensures (subst (λ (y : ℤ). FitsUnsignedBits 64 y) (sym same) (omega (arith, few))) (sym c.ok.ensures.value ∙ c.in_err-number.was))
 
-pub returns-then-number-gt-MOST-clause-none : goal.returns-then-number-gt-MOST-clause-none
-returns-then-number-gt-MOST-clause-none c n few is =
+pub returns-then-number-gt-OFFSET_LIMIT-clause-none : goal.returns-then-number-gt-OFFSET_LIMIT-clause-none
+returns-then-number-gt-OFFSET_LIMIT-clause-none c n few is =
     let z = c.in_ok-read_i64.field-0 in
     let same = fits_count z n (one_number c.args.text.now z n few (sym c.in_ok-read_i64.ensures.number) is) few in
     let value = is_value c.try_from.result _ _ c.in_ok-number.number c.try_from.ensures (sym c.ok.ensures.value ∙ c.in_ok-number.was) in
-    omega (arith, value, ap nat_abs same, few, c.if-number-gt-MOST.true)
+    omega (arith, value, ap nat_abs same, few, c.if-number-gt-OFFSET_LIMIT.true)

@@ -1,6 +1,6 @@
 use Rattle.std.proofs.Common.{rules, ◌≡◌, ℕ, ◌+◌, ◌-◌, List, drop, Option, Some, None, Ok, Err, sym, ap, subst, ◌∙◌, arith}
 use Rattle.std.specs.Prelude.{Result}
-use Rattle.mr_peer_lines.specs.Lines.{most_counted}
+use Rattle.mr_repl.specs.Backlog.{offset_limit}
 use Rattle.mr_follow.specs.State.{FollowState}
 use Rattle.mr_follow.specs.Stream.{AppliesFront}
 use Rattle.mr_follow.specs.Rows.{Steps}
@@ -18,8 +18,8 @@ returns-in_err-used c = λ u ag.
     let kept : c.self.inside.inbox ≡ a.kept = ap (λ (f : FollowState). f.kept) c.self.view_is in
     let fault : FollowFault = c.in_err-used.field-0.0 in
     let told : c.from_residual.result ≡ Err fault = search rules in
-    let room = most_counted - c.args.offset in
-    let all : c.args.offset + room ≡ most_counted = omega (arith, c.requires.countable) in
+    let room = offset_limit - c.args.offset in
+    let all : c.args.offset + room ≡ offset_limit = omega (arith, c.requires.countable) in
     subst (λ (r : Result Heard FollowFault). Steps a u m c.args.offset r (holding c.apply_front.new.inbox) n before after) (sym told)
     (subst (λ (b : FollowState). Steps a u m c.args.offset (Err fault) b n before after) (sym (ap holding c.in_err-used.ensures.kept ∙ c.self.view_is))
     (follow_fault a m n c.args.offset room fault before after c.requires.streams all (subst (λ (v : List ℕ). AppliesFront v room m (Err fault) n before after) kept c.in_err-used.ensures.applied) u ag))
@@ -33,8 +33,8 @@ returns c =
     let m = c.args.held.now in let n = c.apply_front.new.held in
     let before = c.args.out.now.items in let after = c.apply_front.new.out.items in
     let kept : c.self.inside.inbox ≡ a.kept = ap (λ (f : FollowState). f.kept) c.self.view_is in
-    let room = most_counted - c.args.offset in
-    let all : c.args.offset + room ≡ most_counted = omega (arith, c.requires.countable) in
+    let room = offset_limit - c.args.offset in
+    let all : c.args.offset + room ≡ offset_limit = omega (arith, c.requires.countable) in
     let used = c.in-Some.used in
     let found : AppliesFront c.self.inside.inbox room m (Ok (Some used)) n before after = subst (λ (o : Option ℕ). AppliesFront c.self.inside.inbox room m (Ok o) n before after) c.in-Some.is c.in_ok-used.ensures.applied in
     follow_applied a c.take.new.self m n c.args.offset room used before after c.requires.streams all (subst (λ (v : List ℕ). AppliesFront v room m (Ok (Some used)) n before after) kept found)
