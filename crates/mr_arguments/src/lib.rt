@@ -11,4 +11,4 @@ pub use fault::{AskFault, BadValue, ExpiringCommand};
 pub use laws::names_are_found;
 pub use name::Name;
 pub use numbers::{count, integer, not_below_1, offset};
-pub use words::{Argument, Arguments, Pairs, PairsIter, Words};
+pub use words::{Argument, Arguments, WordPairs, WordPairsIter, Words};

@@ -80,11 +80,11 @@ impl<'a, 't> Words<'a, 't> {
 
 /// Words that follow one another in a request, taken two by two: fields with their values.
 #[derive(Drop)]
-pub struct Pairs<'a, 't> {
+pub struct WordPairs<'a, 't> {
     words: &'a [CowSlice<'t, u8>],
 }
 
-impl<'a, 't> Model for Pairs<'a, 't> {
+impl<'a, 't> Model for WordPairs<'a, 't> {
     ghost use Rattle.std.specs.Prelude.{ℕ, List, map};
     ghost use Rattle.std.specs.Cow.{cow_slice_items};
     ghost use Rattle.mr_arguments.specs.Pairing.{paired};
@@ -94,13 +94,13 @@ impl<'a, 't> Model for Pairs<'a, 't> {
     ghost view = { λ a. paired (map cow_slice_items a.words.now) };
 }
 
-impl<'a, 't> Pairs<'a, 't> {
+impl<'a, 't> WordPairs<'a, 't> {
     /// These words as pairs, if no word is left over. They are not copied.
-    pub fn of(words: &'a [CowSlice<'t, u8>]) -> Option<Pairs<'a, 't>>
+    pub fn of(words: &'a [CowSlice<'t, u8>]) -> Option<WordPairs<'a, 't>>
         ensures { result ≡ pairs_of (map cow_slice_items words.now) }
     {
         if are_pairs(words) {
-            Some(Pairs { words })
+            Some(WordPairs { words })
         } else {
             None
         }
@@ -115,10 +115,10 @@ impl<'a, 't> Pairs<'a, 't> {
     }
 
     /// The pairs, in the order of the request.
-    pub fn iter(&self) -> PairsIter<'a, 't>
+    pub fn iter(&self) -> WordPairsIter<'a, 't>
         ensures { result ≡ self.now }
     {
-        PairsIter { words: self.words }
+        WordPairsIter { words: self.words }
     }
 }
 
@@ -131,11 +131,11 @@ fn are_pairs(words: &[CowSlice<'_, u8>]) -> bool
 
 /// The pairs that are still to come, seen as a list.
 #[derive(Drop)]
-pub struct PairsIter<'a, 't> {
+pub struct WordPairsIter<'a, 't> {
     words: &'a [CowSlice<'t, u8>],
 }
 
-impl<'a, 't> Model for PairsIter<'a, 't> {
+impl<'a, 't> Model for WordPairsIter<'a, 't> {
     ghost use Rattle.std.specs.Prelude.{ℕ, List, map};
     ghost use Rattle.std.specs.Cow.{cow_slice_items};
     ghost use Rattle.mr_arguments.specs.Pairing.{paired};
@@ -145,7 +145,7 @@ impl<'a, 't> Model for PairsIter<'a, 't> {
     ghost view = { λ a. paired (map cow_slice_items a.words.now) };
 }
 
-impl<'a, 't> Iterator for PairsIter<'a, 't> {
+impl<'a, 't> Iterator for WordPairsIter<'a, 't> {
     type Item = (&'a [u8], &'a [u8]);
 
     ghost next_gives = { YieldsFirstBy read_pair (λ s. s) };

@@ -4,7 +4,7 @@ ghost use Rattle.std.specs.Cow.{cow_slice_items};
 ghost use Rattle.mr_cmd_hash.specs.Arguments.{hset, hsetnx, hget, hmget, list_hash, hdel, hexists, hlen, hstrlen, hincrby};
 
 use crate::hash_ask::{FieldsReply, HashAsk, HashPart};
-use mr_arguments::{Argument, Arguments, AskFault, Name, Pairs, Words, integer};
+use mr_arguments::{Argument, Arguments, AskFault, Name, WordPairs, Words, integer};
 
 type Reading<'a, 't> = Result<HashAsk<'a, 't>, AskFault>;
 
@@ -20,7 +20,7 @@ pub fn hset<'a, 't>(name: Name, reply: FieldsReply, arguments: Arguments<'a, 't>
         [] | [_] => Err(AskFault::Arity(name)),
         [key, words @ ..] => Ok(HashAsk::HSet {
             key: Argument::of(key),
-            pairs: Pairs::of(words).ok_or(AskFault::Arity(name))?,
+            pairs: WordPairs::of(words).ok_or(AskFault::Arity(name))?,
             reply,
         }),
     }

@@ -1,5 +1,5 @@
 // Commands on hashes, with their arguments.
-use mr_arguments::{Argument, Pairs, Words};
+use mr_arguments::{Argument, WordPairs, Words};
 
 /// A command on hashes, with its arguments.
 #[derive(Drop)]
@@ -7,7 +7,7 @@ pub enum HashAsk<'a, 't> {
     /// `HSET key field value [field value ..]`, `HMSET` the same
     HSet {
         key: Argument<'a>,
-        pairs: Pairs<'a, 't>,
+        pairs: WordPairs<'a, 't>,
         reply: FieldsReply,
     },
     /// `HSETNX key field value`

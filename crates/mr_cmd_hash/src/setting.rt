@@ -11,7 +11,7 @@ use crate::groups::{PairGroup, end_pairs};
 use crate::hash_ask::FieldsReply;
 use crate::replies::{no_integer, overflow};
 use itoa::Buffer;
-use mr_arguments::{Argument, Pairs};
+use mr_arguments::{Argument, WordPairs};
 use mr_bytes::read_i64;
 use mr_map::SliceMap;
 use mr_resp::Reply;
@@ -22,7 +22,7 @@ use std::alloc::{AllocError, Global};
 /// The fields that pairs name, each with its last value. They are not copied.
 fn last_values<'a>(
     alloc: Global,
-    pairs: &Pairs<'a, '_>,
+    pairs: &WordPairs<'a, '_>,
 ) -> Result<SliceMap<'a, Argument<'a>>, AllocError>
     ensures { IfOk result (λ values. values ≡ last_values pairs.now) }
 {
@@ -68,7 +68,7 @@ fn fields_reply(reply: FieldsReply, new: usize) -> Reply
 }
 
 /// The field with its value, where pairs are one alone.
-fn only_pair<'a>(pairs: &Pairs<'a, '_>) -> Option<(&'a [u8], &'a [u8])>
+fn only_pair<'a>(pairs: &WordPairs<'a, '_>) -> Option<(&'a [u8], &'a [u8])>
     ensures one { IfSome result (λ p. pairs.now ≡ (p.0.now, p.1.now) ∷ []) }
     ensures other { IfNone result (length pairs.now ≢ 1) }
 {
@@ -117,7 +117,7 @@ fn set_field(
 pub fn hset(
     alloc: Global,
     key: &Argument<'_>,
-    pairs: &Pairs<'_, '_>,
+    pairs: &WordPairs<'_, '_>,
     reply: FieldsReply,
     hash: &Hash,
     effects: &mut Effects,

@@ -1,6 +1,7 @@
 // Deadlines that keys get and lose, and what is answered of them.
-ghost use Rattle.std.specs.Prelude.{◌≡◌, ◌≤ℤ◌, ◌^◌, pos, IfOk, IfSome, option_copied};
+ghost use Rattle.std.specs.Prelude.{◌≡◌, ◌≤ℤ◌, pos, IfOk, IfSome, option_copied};
 ghost use Rattle.mr_resp.specs.ReplyView.{view};
+ghost use Rattle.mr_effect.specs.Effects.{last_deadline};
 ghost use Rattle.mr_data.specs.Dataset.{IsLifetime};
 ghost use Rattle.mr_room.specs.Answered.{Takes};
 ghost use Rattle.mr_cmd_key.specs.Expiring.{allows, deadline_in, expire_answer, in_seconds, is_until, lifetime_in, persist_answer, answered_in};
@@ -144,7 +145,7 @@ fn deadline_in(form: DeadlineForm, given: Given, deadline: i64) -> i64
 
 /// Milliseconds in seconds, rounded to the nearest number.
 fn in_seconds(milliseconds: i64) -> i64
-    requires { milliseconds ≤ℤ pos (2 ^ 62) }
+    requires { milliseconds ≤ℤ pos last_deadline }
     ensures { result ≡ in_seconds milliseconds }
 {
     (milliseconds + 500).div_euclid(1000)

@@ -6,7 +6,7 @@ ghost use Rattle.mr_arguments.specs.Names.{lowered};
 ghost use Rattle.mr_cmd_key.specs.Options.{expire_condition, is_expire_condition, condition_if_any, scan_text, scan_option, no_scan_options, scan_also, scan_options};
 
 use crate::key_ask::ExpireCondition;
-use mr_arguments::{Argument, Arguments, AskFault, Pairs};
+use mr_arguments::{Argument, Arguments, AskFault, WordPairs};
 
 impl ExpireCondition {
     /// The condition that a word is, in any case.
@@ -110,7 +110,7 @@ impl<'a> ScanOptions<'a> {
     pub(crate) fn read(words: Arguments<'a, '_>) -> Result<ScanOptions<'a>, AskFault>
         ensures { result ≡ scan_options (map cow_slice_items words.now) }
     {
-        let pairs = Pairs::of(words).ok_or(AskFault::Syntax)?;
+        let pairs = WordPairs::of(words).ok_or(AskFault::Syntax)?;
         let mut options = ScanOptions::none();
         for (option, argument) in pairs.iter() {
             options = options.and(ScanOption::of(option)?, Argument::new(argument))?;

@@ -5,6 +5,7 @@ pub mod PopLemmas
 pub mod MoveLemmas
 pub mod NumberLemmas
 pub mod OneEffect
+pub mod FoundLemmas
 pub mod PushLaws
 pub mod Sizes
 pub mod PopLaws

@@ -1,10 +1,12 @@
 -- Commands on the list at a key, which have an answer of their own where the key is absent.
 use Rattle.std.specs.Prelude.{List, [], ◌∷◌, map, codes, Bool, if◌then◌else◌, Option, Some, None}
+use Rattle.std.specs.Option.{option_map}
 use Rattle.mr_map.specs.Bytes.{Bytes}
 use Rattle.mr_resp.specs.Replies as reply
 use Rattle.mr_resp.specs.Replies.{Tree}
 use Rattle.mr_resp.specs.ReplyView.{trees_of}
 use Rattle.mr_entries.specs.Steps.{lists}
+use Rattle.mr_entries.specs.declared.value.Value.TheVariants as value
 use Rattle.mr_entries.specs.declared.value.Entry.{Entry}
 use Rattle.mr_effect.specs.declared.effect.Effect.{Effect}
 use Rattle.mr_room.specs.Answered.{Answered, kept}
@@ -19,6 +21,16 @@ of_list absent answer (Some e) = telling lists answer (Some e)
 abbrev pub on_list : Tree → (List Bytes → Change (List Bytes)) → Option Entry → Answered
 on_list absent change None = kept absent None
 on_list absent change (Some e) = changing lists change (Some e)
+
+-- the list at a key, which is none where the key is absent, unless the key holds another kind
+abbrev pub found : Option Entry → Option (Option (List Bytes))
+found None = Some None
+found (Some e) = option_map Some (lists.of e.value)
+
+-- the entry of a list that has no deadline
+abbrev pub entry_with : Option (List Bytes) → Option Entry
+entry_with None = None
+entry_with (Some xs) = Some (record { value = value.List xs; deadline = None })
 
 -- the list stays as it is
 abbrev pub unchanged : Tree → List Bytes → Change (List Bytes)

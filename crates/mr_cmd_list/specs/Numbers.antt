@@ -29,6 +29,11 @@ abbrev pub IsNumberFor : ℤ → Option Entry → Type 0
 IsNumberFor count None = Unit {0}
 IsNumberFor count (Some e) = IsTrue (is_i64 count)
 
+-- a number that a command was told has 64 bits
+abbrev pub HasNumber : ListAsk → Type 0
+HasNumber (ask.LRem k count item) = IsTrue (is_i64 count)
+HasNumber _ = Unit {0}
+
 -- the numbers in a command's effects have 64 bits, with this entry at its key
 abbrev pub HasNumbers : ListAsk → Option Entry → Type 0
 HasNumbers (ask.Pop k end count) o = IsShortFor count o

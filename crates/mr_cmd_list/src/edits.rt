@@ -3,15 +3,15 @@ ghost use Rattle.std.specs.Prelude.{◌≡◌, ◌<◌, ◌^◌, IfOk, option_co
 ghost use Rattle.mr_resp.specs.ReplyView.{view};
 ghost use Rattle.mr_value.specs.Lists.{removed_count, count_of};
 ghost use Rattle.mr_room.specs.Answered.{Takes};
-ghost use Rattle.mr_cmd_list.specs.Numbers.{IsShort, IsNumberFor};
+ghost use Rattle.mr_cmd_list.specs.Lists.{entry_with};
 ghost use Rattle.mr_cmd_list.specs.Edits.{lset_answer, linsert_answer, lrem_answer, ltrim_answer, is_item};
 
 use crate::replies::{no_such_key, out_of_range};
 use mr_arguments::Argument;
 use mr_bytes::{Side, Word, place, window};
-use mr_data::{Effect, Entry, Value};
+use mr_data::Effect;
 use mr_resp::Reply;
-use mr_room::{Effects, done, integer, wrong_kind};
+use mr_room::{Effects, done, integer};
 use mr_value::ListValue;
 use std::alloc::{AllocError, Global};
 
@@ -21,17 +21,13 @@ pub fn lset(
     key: &Argument<'_>,
     index: i64,
     item: &Argument<'_>,
-    live_entry: Option<&Entry>,
+    list: Option<&ListValue>,
     effects: &mut Effects,
 ) -> Result<Reply, AllocError>
-    ensures takes { IfOk result (λ r. Takes (lset_answer key.now index item.now (option_copied live_entry.entry)) (view r) effects.old effects.new) }
-    ensures short { IsShort (option_copied live_entry.entry) }
+    ensures { IfOk result (λ r. Takes (lset_answer key.now index item.now (entry_with (option_copied list.entry))) (view r) effects.old effects.new) }
 {
-    let Some(entry) = live_entry else {
+    let Some(list) = list else {
         return Ok(no_such_key());
-    };
-    let Value::List(list) = &entry.value else {
-        return Ok(wrong_kind());
     };
     let Some(place) = place(index, list.len()) else {
         return Ok(out_of_range());
@@ -63,16 +59,13 @@ pub fn linsert(
     side: Side,
     pivot: &Argument<'_>,
     item: &Argument<'_>,
-    live_entry: Option<&Entry>,
+    list: Option<&ListValue>,
     effects: &mut Effects,
 ) -> Result<Reply, AllocError>
-    ensures { IfOk result (λ r. Takes (linsert_answer key.now side pivot.now item.now (option_copied live_entry.entry)) (view r) effects.old effects.new) }
+    ensures { IfOk result (λ r. Takes (linsert_answer key.now side pivot.now item.now (entry_with (option_copied list.entry))) (view r) effects.old effects.new) }
 {
-    let Some(entry) = live_entry else {
+    let Some(list) = list else {
         return Ok(integer(0));
-    };
-    let Value::List(list) = &entry.value else {
-        return Ok(wrong_kind());
     };
     if list.position(pivot.as_slice()).is_none() {
         return Ok(integer(-1));
@@ -92,17 +85,13 @@ pub fn lrem(
     key: &Argument<'_>,
     count: i64,
     item: &Argument<'_>,
-    live_entry: Option<&Entry>,
+    list: Option<&ListValue>,
     effects: &mut Effects,
 ) -> Result<Reply, AllocError>
-    ensures number { IsNumberFor count (option_copied live_entry.entry) }
-    ensures takes { IfOk result (λ r. Takes (lrem_answer key.now count item.now (option_copied live_entry.entry)) (view r) effects.old effects.new) }
+    ensures { IfOk result (λ r. Takes (lrem_answer key.now count item.now (entry_with (option_copied list.entry))) (view r) effects.old effects.new) }
 {
-    let Some(entry) = live_entry else {
+    let Some(list) = list else {
         return Ok(integer(0));
-    };
-    let Value::List(list) = &entry.value else {
-        return Ok(wrong_kind());
     };
     let removed = removed_count(list, count, item.as_slice());
     if removed != 0 {
@@ -132,17 +121,13 @@ pub fn ltrim(
     key: &Argument<'_>,
     first: i64,
     last: i64,
-    live_entry: Option<&Entry>,
+    list: Option<&ListValue>,
     effects: &mut Effects,
 ) -> Result<Reply, AllocError>
-    ensures takes { IfOk result (λ r. Takes (ltrim_answer key.now first last (option_copied live_entry.entry)) (view r) effects.old effects.new) }
-    ensures short { IsShort (option_copied live_entry.entry) }
+    ensures { IfOk result (λ r. Takes (ltrim_answer key.now first last (entry_with (option_copied list.entry))) (view r) effects.old effects.new) }
 {
-    let Some(entry) = live_entry else {
+    let Some(list) = list else {
         return Ok(done());
-    };
-    let Value::List(list) = &entry.value else {
-        return Ok(wrong_kind());
     };
     let len = list.len();
     let Some((first, last)) = window(first, last, len) else {

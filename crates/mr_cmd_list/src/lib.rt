@@ -4,6 +4,7 @@
 pub mod arguments;
 mod edits;
 mod ends;
+mod finding;
 mod list_ask;
 mod moves;
 mod parts;

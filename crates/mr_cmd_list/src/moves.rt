@@ -6,14 +6,17 @@ ghost use Rattle.mr_data.specs.Dataset.{IsDataset};
 ghost use Rattle.mr_entries.specs.Steps.{lists, held};
 ghost use Rattle.mr_room.specs.Answered.{Takes};
 ghost use Rattle.mr_room.specs.Commands.{IsPlan};
+ghost use Rattle.mr_cmd_list.specs.Lists.{entry_with};
 ghost use Rattle.mr_cmd_list.specs.Moves.{rotate_answer, carry, moving};
 
 use crate::ends::{end_item, is_same_end};
+use crate::finding::list_at;
 use mr_arguments::Argument;
 use mr_bytes::{End, Word};
 use mr_data::{Dataset, Effect, Entry, Given, Plan, Value};
 use mr_resp::Reply;
 use mr_room::{Effects, bulk, look, wrong_kind};
+use mr_value::ListValue;
 use std::alloc::{AllocError, Global};
 
 /// The plan of a command that moves an item. A key that is named twice is looked at once.
@@ -32,7 +35,10 @@ pub fn move_item(
     let mut effects = Effects::new(alloc);
     let source = look(alloc, held, from, given, &mut effects)?;
     if is_same_key(from, to) {
-        let reply = rotate(alloc, from, taken, put, source, &mut effects)?;
+        let Ok(list) = list_at(source) else {
+            return Ok(effects.into_plan(wrong_kind()));
+        };
+        let reply = rotate(alloc, from, taken, put, list, &mut effects)?;
         return Ok(effects.into_plan(reply));
     }
     let target = look(alloc, held, to, given, &mut effects)?;
@@ -53,16 +59,13 @@ pub fn rotate(
     key: &Argument<'_>,
     taken: End,
     put: End,
-    live_entry: Option<&Entry>,
+    list: Option<&ListValue>,
     effects: &mut Effects,
 ) -> Result<Reply, AllocError>
-    ensures { IfOk result (λ r. Takes (rotate_answer key.now taken put (option_copied live_entry.entry)) (view r) effects.old effects.new) }
+    ensures { IfOk result (λ r. Takes (rotate_answer key.now taken put (entry_with (option_copied list.entry))) (view r) effects.old effects.new) }
 {
-    let Some(entry) = live_entry else {
+    let Some(list) = list else {
         return Ok(Reply::NullBulk);
-    };
-    let Value::List(list) = &entry.value else {
-        return Ok(wrong_kind());
     };
     let Some(item) = end_item(list, taken) else {
         return Ok(Reply::NullBulk);

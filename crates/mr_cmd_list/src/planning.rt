@@ -8,16 +8,19 @@ ghost use Rattle.mr_data.specs.Dataset.{IsDataset, live};
 ghost use Rattle.mr_cmd_list.specs.Carried.{list_words};
 ghost use Rattle.mr_room.specs.Answered.{Takes};
 ghost use Rattle.mr_room.specs.Commands.{on_key, IsPlan, IsFaithful, HasCommandTexts};
-ghost use Rattle.mr_cmd_list.specs.Numbers.{HasNumbers, HasNumbersIn};
+ghost use Rattle.mr_cmd_list.specs.Lists.{entry_with};
+ghost use Rattle.mr_cmd_list.specs.Numbers.{HasNumber, HasNumbers, HasNumbersIn};
 ghost use Rattle.mr_cmd_list.specs.Commands.{answer_of, command};
 
+use crate::finding::list_at;
 use crate::list_ask::ListAsk;
 use crate::{edits, moves, pops, pushes, telling};
 use mr_arguments::Argument;
 use mr_bytes::End;
-use mr_data::{Dataset, Entry, Given, Plan};
+use mr_data::{Dataset, Given, Plan};
 use mr_resp::Reply;
-use mr_room::{Effects, look};
+use mr_room::{Effects, look, wrong_kind};
+use mr_value::ListValue;
 use std::alloc::{AllocError, Global};
 
 /// What a command on lists is answered, and its effects. The dataset isn't changed, and the plan owns what it holds.
@@ -83,21 +86,34 @@ fn at_key(
     ensures kept { IsDataset held.now }
     ensures numbers { HasNumbers ask.now (live given.now (get held.now key.now)) }
 {
+    number_is_limited(ask);
     let mut effects = Effects::new(alloc);
     let live_entry = look(alloc, held, key, given, &mut effects)?;
-    let reply = answer_of(alloc, ask, live_entry, &mut effects)?;
+    let Ok(list) = list_at(live_entry) else {
+        return Ok(effects.into_plan(wrong_kind()));
+    };
+    let reply = answer_of(alloc, ask, list, &mut effects)?;
     Ok(effects.into_plan(reply))
 }
 
-/// What a command on one key is answered by what that holds. Its effects are put behind those that are there.
+/// A number that a command hands on to its effect has 64 bits.
+fn number_is_limited(ask: &ListAsk<'_, '_>)
+    ensures { HasNumber ask.now }
+{
+    if let ListAsk::LRem { count, .. } = ask {
+        let _count = *count;
+    }
+}
+
+/// What a command on one key is answered by the list there, which is none where the key is absent. Its effects are put
+/// behind those that are there.
 fn answer_of(
     alloc: Global,
     ask: &ListAsk<'_, '_>,
-    live_entry: Option<&Entry>,
+    list: Option<&ListValue>,
     effects: &mut Effects,
 ) -> Result<Reply, AllocError>
-    ensures numbers { HasNumbers ask.now (option_copied live_entry.entry) }
-    ensures takes { IfOk result (λ r. Takes (answer_of ask.now (option_copied live_entry.entry)) (view r) effects.old effects.new) }
+    ensures { IfOk result (λ r. Takes (answer_of ask.now (entry_with (option_copied list.entry))) (view r) effects.old effects.new) }
 {
     match ask {
         ListAsk::Push {
@@ -105,40 +121,38 @@ fn answer_of(
             end,
             to,
             items,
-        } => pushes::push(alloc, key, *end, *to, items, live_entry, effects),
-        ListAsk::Pop { key, end, count } => pops::pop(
-            alloc, key, *end, *count, live_entry, effects,
-        ),
-        ListAsk::LLen { .. } => Ok(telling::llen(live_entry)),
+        } => pushes::push(alloc, key, *end, *to, items, list, effects),
+        ListAsk::Pop { key, end, count } => pops::pop(alloc, key, *end, *count, list, effects),
+        ListAsk::LLen { .. } => Ok(telling::llen(list)),
         ListAsk::LRange {
             key: _,
             first,
             last,
-        } => telling::lrange(alloc, *first, *last, live_entry),
-        ListAsk::LIndex { key: _, index } => telling::lindex(alloc, *index, live_entry),
+        } => telling::lrange(alloc, *first, *last, list),
+        ListAsk::LIndex { key: _, index } => telling::lindex(alloc, *index, list),
         ListAsk::LSet { key, index, item } => {
-            edits::lset(alloc, key, *index, item, live_entry, effects)
+            edits::lset(alloc, key, *index, item, list, effects)
         }
         ListAsk::LInsert {
             key,
             side,
             pivot,
             item,
-        } => edits::linsert(alloc, key, *side, pivot, item, live_entry, effects),
+        } => edits::linsert(alloc, key, *side, pivot, item, list, effects),
         ListAsk::LRem { key, count, item } => {
-            edits::lrem(alloc, key, *count, item, live_entry, effects)
+            edits::lrem(alloc, key, *count, item, list, effects)
         }
         ListAsk::LTrim { key, first, last } => {
-            edits::ltrim(alloc, key, *first, *last, live_entry, effects)
+            edits::ltrim(alloc, key, *first, *last, list, effects)
         }
         ListAsk::LMove {
             from,
             to: _,
             taken,
             put,
-        } => moves::rotate(alloc, from, *taken, *put, live_entry, effects),
+        } => moves::rotate(alloc, from, *taken, *put, list, effects),
         ListAsk::RPopLPush { from, to: _ } => {
-            moves::rotate(alloc, from, End::Right, End::Left, live_entry, effects)
+            moves::rotate(alloc, from, End::Right, End::Left, list, effects)
         }
     }
 }

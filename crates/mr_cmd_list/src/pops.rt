@@ -2,16 +2,15 @@
 ghost use Rattle.std.specs.Prelude.{◌≡◌, ◌≤◌, min, length, map, IfOk, option_copied};
 ghost use Rattle.mr_resp.specs.ReplyView.{view};
 ghost use Rattle.mr_room.specs.Answered.{Takes};
-ghost use Rattle.mr_cmd_list.specs.Lists.{items_reply};
-ghost use Rattle.mr_cmd_list.specs.Numbers.{IsShort, IsShortFor};
+ghost use Rattle.mr_cmd_list.specs.Lists.{entry_with, items_reply};
 ghost use Rattle.mr_cmd_list.specs.Pops.{pop_answer, taken_items};
 
 use crate::ends::end_item;
 use mr_arguments::Argument;
 use mr_bytes::{End, Word};
-use mr_data::{Effect, Entry, Value};
+use mr_data::Effect;
 use mr_resp::Reply;
-use mr_room::{Effects, bulk, wrong_kind};
+use mr_room::{Effects, bulk};
 use mr_value::ListValue;
 use std::alloc::{AllocError, Global};
 
@@ -21,15 +20,14 @@ pub fn pop(
     key: &Argument<'_>,
     end: End,
     count: Option<usize>,
-    live_entry: Option<&Entry>,
+    list: Option<&ListValue>,
     effects: &mut Effects,
 ) -> Result<Reply, AllocError>
-    ensures takes { IfOk result (λ r. Takes (pop_answer key.now end count (option_copied live_entry.entry)) (view r) effects.old effects.new) }
-    ensures short { IsShortFor count (option_copied live_entry.entry) }
+    ensures { IfOk result (λ r. Takes (pop_answer key.now end count (entry_with (option_copied list.entry))) (view r) effects.old effects.new) }
 {
     match count {
-        None => pop_one(alloc, key, end, live_entry, effects),
-        Some(most) => pop_some(alloc, key, end, most, live_entry, effects),
+        None => pop_one(alloc, key, end, list, effects),
+        Some(most) => pop_some(alloc, key, end, most, list, effects),
     }
 }
 
@@ -38,16 +36,13 @@ fn pop_one(
     alloc: Global,
     key: &Argument<'_>,
     end: End,
-    live_entry: Option<&Entry>,
+    list: Option<&ListValue>,
     effects: &mut Effects,
 ) -> Result<Reply, AllocError>
-    ensures { IfOk result (λ r. Takes (pop_answer key.now end None (option_copied live_entry.entry)) (view r) effects.old effects.new) }
+    ensures { IfOk result (λ r. Takes (pop_answer key.now end None (entry_with (option_copied list.entry))) (view r) effects.old effects.new) }
 {
-    let Some(entry) = live_entry else {
+    let Some(list) = list else {
         return Ok(Reply::NullBulk);
-    };
-    let Value::List(list) = &entry.value else {
-        return Ok(wrong_kind());
     };
     let Some(item) = end_item(list, end) else {
         return Ok(Reply::NullBulk);
@@ -67,17 +62,13 @@ fn pop_some(
     key: &Argument<'_>,
     end: End,
     most: usize,
-    live_entry: Option<&Entry>,
+    list: Option<&ListValue>,
     effects: &mut Effects,
 ) -> Result<Reply, AllocError>
-    ensures takes { IfOk result (λ r. Takes (pop_answer key.now end (Some most) (option_copied live_entry.entry)) (view r) effects.old effects.new) }
-    ensures short { IsShort (option_copied live_entry.entry) }
+    ensures { IfOk result (λ r. Takes (pop_answer key.now end (Some most) (entry_with (option_copied list.entry))) (view r) effects.old effects.new) }
 {
-    let Some(entry) = live_entry else {
+    let Some(list) = list else {
         return Ok(Reply::NullArray);
-    };
-    let Value::List(list) = &entry.value else {
-        return Ok(wrong_kind());
     };
     let count = most.min(list.len());
     let reply = taken(alloc, list, end, count)?;

@@ -5,14 +5,16 @@ ghost use Rattle.mr_resp.specs.Replies.{int};
 ghost use Rattle.mr_resp.specs.ReplyView.{view};
 ghost use Rattle.mr_entries.specs.Cuts.{cut};
 ghost use Rattle.mr_room.specs.Answered.{Takes};
+ghost use Rattle.mr_cmd_list.specs.Lists.{entry_with};
 ghost use Rattle.mr_cmd_list.specs.Pushes.{push_answer, push_effects};
 
 use crate::list_ask::PushTo;
 use mr_arguments::{Argument, Words};
 use mr_bytes::{End, Word};
-use mr_data::{Effect, EffectWords, Entry, Value};
+use mr_data::{Effect, EffectWords};
 use mr_resp::Reply;
-use mr_room::{Effects, integer, wrong_kind};
+use mr_room::{Effects, integer};
+use mr_value::ListValue;
 use std::alloc::{AllocError, Global};
 use std::borrow::CowSlice;
 
@@ -23,22 +25,15 @@ pub fn push(
     end: End,
     to: PushTo,
     items: &Words<'_, '_>,
-    live_entry: Option<&Entry>,
+    list: Option<&ListValue>,
     effects: &mut Effects,
 ) -> Result<Reply, AllocError>
-    ensures { IfOk result (λ r. Takes (push_answer key.now end to items.now (option_copied live_entry.entry)) (view r) effects.old effects.new) }
+    ensures { IfOk result (λ r. Takes (push_answer key.now end to items.now (entry_with (option_copied list.entry))) (view r) effects.old effects.new) }
 {
-    let before = match live_entry {
-        None => match to {
-            PushTo::AnyKey => 0,
-            PushTo::ExistingKey => return Ok(integer(0)),
-        },
-        Some(entry) => match &entry.value {
-            Value::List(list) => list.len(),
-            Value::Text(_) | Value::Hash(_) | Value::Set(_) | Value::SortedSet(_) => {
-                return Ok(wrong_kind());
-            }
-        },
+    let before = match (list, to) {
+        (Some(list), _) => list.len(),
+        (None, PushTo::AnyKey) => 0,
+        (None, PushTo::ExistingKey) => return Ok(integer(0)),
     };
     push_groups(alloc, key, end, items.as_slice(), effects)?;
     Ok(integer((before + items.as_slice().len()) as i64))

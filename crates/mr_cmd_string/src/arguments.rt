@@ -6,7 +6,7 @@ ghost use Rattle.mr_cmd_string.specs.Arguments.{get, set, setex, psetex, strlen,
 use crate::options::SetOptions;
 use crate::parts::{lifetime_if_any, milliseconds, opposite, seconds};
 use crate::text_ask::{Amount, TextAsk};
-use mr_arguments::{Argument, Arguments, AskFault, Name, Pairs, Words, integer, offset};
+use mr_arguments::{Argument, Arguments, AskFault, Name, WordPairs, Words, integer, offset};
 
 type Reading<'a, 't> = Result<TextAsk<'a, 't>, AskFault>;
 
@@ -153,7 +153,7 @@ pub fn mset<'a, 't>(arguments: Arguments<'a, 't>) -> Reading<'a, 't>
     match arguments {
         [] => Err(AskFault::Arity(Name::MSet)),
         _ => Ok(TextAsk::MSet {
-            pairs: Pairs::of(arguments).ok_or(AskFault::Arity(Name::MSet))?,
+            pairs: WordPairs::of(arguments).ok_or(AskFault::Arity(Name::MSet))?,
         }),
     }
 }
@@ -165,7 +165,7 @@ pub fn msetnx<'a, 't>(arguments: Arguments<'a, 't>) -> Reading<'a, 't>
     match arguments {
         [] => Err(AskFault::Arity(Name::MSetNx)),
         _ => Ok(TextAsk::MSetNx {
-            pairs: Pairs::of(arguments).ok_or(AskFault::Arity(Name::MSetNx))?,
+            pairs: WordPairs::of(arguments).ok_or(AskFault::Arity(Name::MSetNx))?,
         }),
     }
 }

@@ -8,7 +8,7 @@ ghost use Rattle.mr_cmd_string.specs.SettingAll.{names, last_texts, set_effects,
 ghost use Rattle.mr_cmd_string.specs.Finding.{is_any_live, is_any_expired, changed_at};
 
 use crate::setting::is_plain;
-use mr_arguments::{Argument, Pairs, Words};
+use mr_arguments::{Argument, WordPairs, Words};
 use mr_bytes::Word;
 use mr_data::{Dataset, Effect, EffectPairs, Given};
 use mr_map::SliceMap;
@@ -21,7 +21,7 @@ use std::borrow::CowSlice;
 pub fn mset(
     alloc: Global,
     held: &Dataset,
-    pairs: &Pairs<'_, '_>,
+    pairs: &WordPairs<'_, '_>,
     given: Given,
     effects: &mut Effects,
 ) -> Result<Reply, AllocError>
@@ -40,7 +40,7 @@ pub fn mset(
 pub fn msetnx(
     alloc: Global,
     held: &Dataset,
-    pairs: &Pairs<'_, '_>,
+    pairs: &WordPairs<'_, '_>,
     given: Given,
     effects: &mut Effects,
 ) -> Result<Reply, AllocError>
@@ -62,7 +62,7 @@ pub fn msetnx(
 /// The keys that pairs name, each with its last text. They are not copied.
 fn last_texts<'a>(
     alloc: Global,
-    pairs: &Pairs<'a, '_>,
+    pairs: &WordPairs<'a, '_>,
 ) -> Result<SliceMap<'a, Argument<'a>>, AllocError>
     ensures { IfOk result (λ values. values ≡ last_texts pairs.now) }
 {
@@ -109,7 +109,7 @@ fn find_changed(
 }
 
 /// Whether one of the keys is there and not expired, and whether one is expired.
-fn find_any(held: &Dataset, pairs: &Pairs<'_, '_>, given: Given) -> (bool, bool)
+fn find_any(held: &Dataset, pairs: &WordPairs<'_, '_>, given: Given) -> (bool, bool)
     ensures there { result.0 ≡ is_any_live given.now pairs.now held.now }
     ensures expired { result.1 ≡ is_any_expired given.now pairs.now held.now }
 {
@@ -144,7 +144,7 @@ fn copied(
 fn push_expired(
     alloc: Global,
     held: &Dataset,
-    pairs: &Pairs<'_, '_>,
+    pairs: &WordPairs<'_, '_>,
     given: Given,
     effects: &mut Effects,
 ) -> Result<(), AllocError>

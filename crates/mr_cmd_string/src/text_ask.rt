@@ -2,7 +2,7 @@
 ghost use Rattle.std.specs.Prelude.{◌≡◌};
 ghost use Rattle.mr_cmd_string.specs.Parts.{amount_number};
 
-use mr_arguments::{Argument, Pairs, Words};
+use mr_arguments::{Argument, WordPairs, Words};
 use mr_expiry::{Expiry, Milliseconds, Seconds};
 
 /// A command on strings, with its arguments.
@@ -62,11 +62,11 @@ pub enum TextAsk<'a, 't> {
     },
     /// `MSET key value [key value ..]`
     MSet {
-        pairs: Pairs<'a, 't>,
+        pairs: WordPairs<'a, 't>,
     },
     /// `MSETNX key value [key value ..]`
     MSetNx {
-        pairs: Pairs<'a, 't>,
+        pairs: WordPairs<'a, 't>,
     },
     /// `APPEND key value`
     Append {

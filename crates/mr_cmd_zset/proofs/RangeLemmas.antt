@@ -7,14 +7,9 @@ use Rattle.std.proofs.lemmas.List.Edits.{split_between}
 use Rattle.std.proofs.lemmas.Bool.{ltb-true}
 use Rattle.std.specs.FinMap.{len}
 use Rattle.mr_map.specs.Bytes.{Bytes}
-use Rattle.mr_resp.specs.Replies.{Tree}
 use Rattle.mr_bytes.specs.Window.{window_of, windowed}
 use Rattle.mr_zset.specs.declared.pair.Pair.{Pair}
 use Rattle.mr_zset.specs.Pairs.{pairs_of, shown}
-use Rattle.mr_entries.specs.Steps.{sorted_sets, held}
-use Rattle.mr_entries.specs.declared.value.Entry.{Entry}
-use Rattle.mr_room.specs.Answered.{wrong_kind}
-use Rattle.mr_room.specs.Collections.{telling, replied}
 use Rattle.mr_zset_options.specs.declared.choices.Order.{Order}
 use Rattle.mr_zset_options.specs.declared.choices.Order.TheVariants.{Ascending, Descending}
 use Rattle.mr_zset_options.specs.declared.choices.RangeReply.TheVariants.{Members, WithScores}
@@ -87,14 +82,6 @@ pub some_limited : (limit : Option Limit) (l : Limit) (offset count : ℤ) (pair
 some_limited limit l (pos o) (pos c) pairs n s m found from many long up start over part = some_passed pairs o s n c m long start part ∙ limit_is limit l (pos o) (pos c) pairs found from many
 some_limited limit l (pos o) (negsuc k) pairs n s m found from many long up start over part = cc
 some_limited limit l (negsuc o) count pairs n s m found from many long up start over part = cc
-
--- what a command that only tells of the set at a key answers
-
-pub reply_of : (answer : Scores → Tree) (live_entry : Option Entry) (scores : Scores) → Some scores ≡ held sorted_sets live_entry → answer scores ≡ (telling sorted_sets answer live_entry).reply
-reply_of answer live_entry scores e = ap (λ (o : Option Scores). (replied sorted_sets answer o live_entry).reply) e
-
-pub no_set : (answer : Scores → Tree) (live_entry : Option Entry) → None ≡ held sorted_sets live_entry → wrong_kind ≡ (telling sorted_sets answer live_entry).reply
-no_set answer live_entry e = ap (λ (o : Option Scores). (replied sorted_sets answer o live_entry).reply) e
 
 pairs_ordered : (order : Order) (scores : Scores) → ordered order (pairs_of scores) ≡ pairs_in order scores
 pairs_ordered Ascending scores = refl

@@ -1,19 +1,22 @@
 -- The commands on sorted sets. Each names one key.
-use Rattle.std.specs.Prelude.{IsTrue, Option}
+use Rattle.std.specs.Prelude.{length, IsTrue, Option}
 use Rattle.std.specs.List.{list_all}
+use Rattle.std.specs.FinMap.{len}
 use Rattle.mr_map.specs.Bytes.{Bytes}
+use Rattle.mr_zset.specs.Pairs.{range_of}
 use Rattle.mr_entries.specs.Steps.{sorted_sets}
 use Rattle.mr_entries.specs.declared.value.Entry.{Entry}
 use Rattle.mr_zset_options.specs.Scored.{is_scored}
 use Rattle.mr_cmd_zset.specs.declared.zset_ask.ZSetAsk.{ZSetAsk}
 use Rattle.mr_cmd_zset.specs.declared.zset_ask.ZSetAsk.TheVariants as ask
 use Rattle.mr_room.specs.Answered.{Answered}
-use Rattle.mr_room.specs.Collections.{changing}
+use Rattle.mr_room.specs.Collections.{Change, changing}
 use Rattle.mr_room.specs.Commands.{Command, on_key}
+use Rattle.mr_cmd_zset.specs.Scores.{Scores, number, told}
 use Rattle.mr_cmd_zset.specs.Adding.{zadd, zincrby}
 use Rattle.mr_cmd_zset.specs.Removing.{zrem, take_pairs, zremrangebyrank, zremrangebyscore}
-use Rattle.mr_cmd_zset.specs.Telling.{zcard_answer, zcount_answer, zscore_answer, zmscore_answer, rank_answer}
-use Rattle.mr_cmd_zset.specs.Ranges.{by_rank_answer, by_score_answer}
+use Rattle.mr_cmd_zset.specs.Telling.{found_score, found_scores, place_of, place_reply, zcard_answer, zcount_answer, zscore_answer, zmscore_answer, rank_answer}
+use Rattle.mr_cmd_zset.specs.Ranges.{pairs_reply, ranked, scored, by_rank_answer, by_score_answer}
 
 -- the key that a command names
 abbrev pub key_of : ZSetAsk → Bytes
@@ -46,6 +49,22 @@ answer_of (ask.RangeByScore k min max order limit reply) = by_score_answer min m
 answer_of (ask.TakePairs k order count) = changing sorted_sets (take_pairs k order count)
 answer_of (ask.ZRemRangeByRank k first last) = changing sorted_sets (zremrangebyrank k first last)
 answer_of (ask.ZRemRangeByScore k min max) = changing sorted_sets (zremrangebyscore k min max)
+
+-- what it does to the set there
+abbrev pub change : ZSetAsk → Scores → Change Scores
+change (ask.ZAdd k only than reply pairs) = zadd only than k reply pairs
+change (ask.ZIncrBy k by x) = zincrby k by x
+change (ask.ZRem k xs) = zrem k xs
+change (ask.ZCard k) = told (λ scores. number (len scores))
+change (ask.ZCount k min max) = told (λ scores. number (length (range_of min max scores)))
+change (ask.ZScore k x) = told (λ scores. found_score scores x)
+change (ask.ZMScore k xs) = told (found_scores xs)
+change (ask.GetRank k x order) = told (λ scores. place_reply (place_of order x scores))
+change (ask.RangeByRank k first last order reply) = told (λ scores. pairs_reply reply (ranked first last order scores))
+change (ask.RangeByScore k min max order limit reply) = told (λ scores. pairs_reply reply (scored min max order limit scores))
+change (ask.TakePairs k order count) = take_pairs k order count
+change (ask.ZRemRangeByRank k first last) = zremrangebyrank k first last
+change (ask.ZRemRangeByScore k min max) = zremrangebyscore k min max
 
 abbrev pub command : ZSetAsk → Command
 command asked = on_key (key_of asked) (answer_of asked)

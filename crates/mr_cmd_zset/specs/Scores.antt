@@ -63,6 +63,10 @@ over w s = with_scores (entries w) s
 abbrev pub unchanged : Tree → Scores → Change Scores
 unchanged reply s = record { reply = reply; value = s; effects = [] }
 
+-- .. and only tells of it
+abbrev pub told : (Scores → Tree) → Scores → Change Scores
+told answer s = unchanged (answer s) s
+
 -- scores are set, and no member goes
 abbrev pub set_to : Bytes → Tree → Scores → Scores → Change Scores
 set_to k reply old new = record { reply = reply; value = new; effects = map (effect.SetScores k) (cut (changed old new)) }

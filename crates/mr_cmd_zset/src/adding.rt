@@ -1,22 +1,18 @@
 // Commands that set scores.
-ghost use Rattle.std.specs.Prelude.{◌≡◌, ◌≢◌, ◌<◌, ◌^◌, ◌+ℤ◌, [], ◌∷◌, length, IfOk, IfSome, IfNone, OnOk, option_copied};
+ghost use Rattle.std.specs.Prelude.{◌≡◌, ◌≢◌, ◌<◌, ◌^◌, ◌+ℤ◌, [], ◌∷◌, length, IfOk, IfSome, IfNone, OnOk};
 ghost use Rattle.std.specs.FinMap.{get};
 ghost use Rattle.mr_resp.specs.ReplyView.{view};
 ghost use Rattle.mr_score.specs.Texts.{within_limit};
-ghost use Rattle.mr_entries.specs.Steps.{sorted_sets};
-ghost use Rattle.mr_room.specs.Answered.{Takes};
-ghost use Rattle.mr_room.specs.Collections.{changing};
 ghost use Rattle.mr_cmd_zset.specs.Scores.{over, Makes};
 ghost use Rattle.mr_cmd_zset.specs.Adding.{is_counted, score_after, with_pair, with_pairs, count_pairs, zadd, score_or_0, zincrby};
 
 use crate::grouping::{push_changed, push_changed_alone};
-use crate::replies::{out_of_range, score_bulk, set_at};
+use crate::replies::{out_of_range, score_bulk};
 use crate::rules::Rules;
 use mr_arguments::Argument;
-use mr_data::Entry;
 use mr_map::SliceMap;
 use mr_resp::Reply;
-use mr_room::{Effects, count, wrong_kind};
+use mr_room::{Effects, count};
 use mr_score::is_score;
 use mr_zset::ZSet;
 use mr_zset_options::ScoredMembers;
@@ -24,25 +20,6 @@ use std::alloc::{AllocError, Global};
 
 /// `ZADD`
 pub fn zadd(
-    alloc: Global,
-    key: &Argument<'_>,
-    rules: Rules,
-    pairs: &ScoredMembers<'_, '_>,
-    live_entry: Option<&Entry>,
-    effects: &mut Effects,
-) -> Result<Reply, AllocError>
-    ensures { IfOk result (λ r. Takes (changing sorted_sets (zadd rules.condition rules.comparison key.now rules.reply pairs.now) (option_copied live_entry.entry)) (view r) effects.old effects.new) }
-{
-    let empty = ZSet::new(alloc);
-    let Some(set) = set_at(live_entry, &empty) else {
-        return Ok(wrong_kind());
-    };
-    let reply = add_to(alloc, key, rules, pairs, set, effects)?;
-    Ok(reply)
-}
-
-/// What `ZADD` on a set is answered. Its effects are put behind those that are there.
-fn add_to(
     alloc: Global,
     key: &Argument<'_>,
     rules: Rules,
@@ -141,28 +118,8 @@ fn score_so_far(scores: &SliceMap<'_, i64>, set: &ZSet, member: &[u8]) -> Option
     }
 }
 
-/// `ZINCRBY`
+/// `ZINCRBY`, which is answered by the sum, or by a refusal where it is no score.
 pub fn zincrby(
-    alloc: Global,
-    key: &Argument<'_>,
-    by: i64,
-    member: &Argument<'_>,
-    live_entry: Option<&Entry>,
-    effects: &mut Effects,
-) -> Result<Reply, AllocError>
-    ensures { IfOk result (λ r. Takes (changing sorted_sets (zincrby key.now by member.now) (option_copied live_entry.entry)) (view r) effects.old effects.new) }
-{
-    let empty = ZSet::new(alloc);
-    let Some(set) = set_at(live_entry, &empty) else {
-        return Ok(wrong_kind());
-    };
-    let reply = increase_in(alloc, key, by, member.as_slice(), set, effects)?;
-    Ok(reply)
-}
-
-/// What `ZINCRBY` on a set is answered: the sum, or a refusal where it is no score. Its effect is put behind those that
-/// are there.
-fn increase_in(
     alloc: Global,
     key: &Argument<'_>,
     by: i64,

@@ -4,7 +4,7 @@ ghost use Rattle.std.specs.Cow.{cow_slice_items};
 ghost use Rattle.mr_cmd_zset.specs.Arguments.{add_scores, range_by_score, score_pairs, zadd, zcard, zcount, zincrby, zmscore, zpop, zrange, zrank, zrem, zremrangebyrank, zremrangebyscore, zrevrange, zscore, ranks, scores};
 
 use crate::zset_ask::ZSetAsk;
-use mr_arguments::{Argument, Arguments, AskFault, Name, Pairs, Words, count, integer};
+use mr_arguments::{Argument, Arguments, AskFault, Name, WordPairs, Words, count, integer};
 use mr_zset_options::{
     AddOptions, LimitWords, Order, RangeBy, RangeOptions, RangeReply, ScoredMembers, bounds,
     cut_options, limit_if_any, score,
@@ -53,7 +53,7 @@ fn score_pairs<'a, 't>(words: Arguments<'a, 't>) -> Result<ScoredMembers<'a, 't>
     if words.is_empty() {
         return Err(AskFault::Syntax);
     }
-    let pairs = Pairs::of(words).ok_or(AskFault::Syntax)?;
+    let pairs = WordPairs::of(words).ok_or(AskFault::Syntax)?;
     ScoredMembers::of(pairs).ok_or(AskFault::Integer)
 }
 

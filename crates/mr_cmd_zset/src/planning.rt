@@ -1,21 +1,23 @@
 // The plan of a command.
-ghost use Rattle.std.specs.Prelude.{◌≡◌, IsTrue, IfOk, option_copied};
+ghost use Rattle.std.specs.Prelude.{◌≡◌, IsTrue, IfOk};
 ghost use Rattle.std.specs.List.{list_all};
 ghost use Rattle.mr_bytes.specs.Words.{fits};
 ghost use Rattle.mr_resp.specs.ReplyView.{view};
 ghost use Rattle.mr_data.specs.Dataset.{IsDataset};
 ghost use Rattle.mr_cmd_zset.specs.Carried.{zset_words};
-ghost use Rattle.mr_room.specs.Answered.{Takes};
 ghost use Rattle.mr_room.specs.Commands.{IsPlan, IsFaithful, HasCommandTexts};
-ghost use Rattle.mr_cmd_zset.specs.Commands.{key_of, answer_of, command, HasScores};
+ghost use Rattle.mr_cmd_zset.specs.Commands.{key_of, change, command, HasScores};
+ghost use Rattle.mr_cmd_zset.specs.Scores.{Makes};
 
+use crate::replies::set_at;
 use crate::rules::Rules;
 use crate::zset_ask::ZSetAsk;
 use crate::{adding, ranges, removing, telling};
 use mr_arguments::Argument;
-use mr_data::{Dataset, Entry, Given, Plan};
+use mr_data::{Dataset, Given, Plan};
 use mr_resp::Reply;
-use mr_room::{Effects, look};
+use mr_room::{Effects, look, wrong_kind};
+use mr_zset::ZSet;
 use std::alloc::{AllocError, Global};
 
 /// What a command on sorted sets is answered, and its effects. The dataset isn't changed, and the plan owns what it holds.
@@ -58,7 +60,11 @@ fn planned(
 {
     let mut effects = Effects::new(alloc);
     let live_entry = look(alloc, held, key_of(ask), given, &mut effects)?;
-    let reply = answer_of(alloc, ask, live_entry, &mut effects)?;
+    let empty = ZSet::new(alloc);
+    let Some(set) = set_at(live_entry, &empty) else {
+        return Ok(effects.into_plan(wrong_kind()));
+    };
+    let reply = change(alloc, ask, set, &mut effects)?;
     Ok(effects.into_plan(reply))
 }
 
@@ -83,14 +89,14 @@ fn key_of<'c, 'a>(ask: &'c ZSetAsk<'a, '_>) -> &'c Argument<'a>
     }
 }
 
-/// What a command is answered by what its key holds. Its effects are put behind those that are there.
-fn answer_of(
+/// What a command on a sorted set is answered. Its effects are put behind those that are there.
+fn change(
     alloc: Global,
     ask: &ZSetAsk<'_, '_>,
-    live_entry: Option<&Entry>,
+    set: &ZSet,
     effects: &mut Effects,
 ) -> Result<Reply, AllocError>
-    ensures { IfOk result (λ r. Takes (answer_of ask.now (option_copied live_entry.entry)) (view r) effects.old effects.new) }
+    ensures { IfOk result (λ r. Makes (change ask.now set.now) (view r) effects.old effects.new) }
 {
     match ask {
         ZSetAsk::ZAdd {
@@ -105,41 +111,37 @@ fn answer_of(
                 comparison: *comparison,
                 reply: *reply,
             };
-            adding::zadd(alloc, key, rules, pairs, live_entry, effects)
+            adding::zadd(alloc, key, rules, pairs, set, effects)
         }
         ZSetAsk::ZIncrBy { key, by, member } => {
-            adding::zincrby(alloc, key, *by, member, live_entry, effects)
+            adding::zincrby(alloc, key, *by, member.as_slice(), set, effects)
         }
-        ZSetAsk::ZRem { key, members } => {
-            removing::zrem(alloc, key, members, live_entry, effects)
-        }
+        ZSetAsk::ZRem { key, members } => { removing::zrem(alloc, key, members, set, effects) }
         ZSetAsk::TakePairs { key, order, count } => {
-            removing::take_pairs(alloc, key, *order, *count, live_entry, effects)
+            removing::take_pairs(alloc, key, *order, *count, set, effects)
         }
         ZSetAsk::ZRemRangeByRank { key, first, last } => {
-            removing::zremrangebyrank(alloc, key, *first, *last, live_entry, effects)
+            removing::zremrangebyrank(alloc, key, *first, *last, set, effects)
         }
         ZSetAsk::ZRemRangeByScore { key, min, max } => {
-            removing::zremrangebyscore(alloc, key, *min, *max, live_entry, effects)
+            removing::zremrangebyscore(alloc, key, *min, *max, set, effects)
         }
-        ZSetAsk::ZCard { key: _ } => Ok(telling::zcard(alloc, live_entry)),
-        ZSetAsk::ZCount { key: _, min, max } => {
-            Ok(telling::zcount(alloc, *min, *max, live_entry))
-        }
-        ZSetAsk::ZScore { key: _, member } => telling::zscore(alloc, member, live_entry),
-        ZSetAsk::ZMScore { key: _, members } => telling::zmscore(alloc, members, live_entry),
+        ZSetAsk::ZCard { key: _ } => Ok(telling::zcard(set)),
+        ZSetAsk::ZCount { key: _, min, max } => { Ok(telling::zcount(*min, *max, set)) }
+        ZSetAsk::ZScore { key: _, member } => telling::zscore(alloc, member, set),
+        ZSetAsk::ZMScore { key: _, members } => telling::zmscore(alloc, members, set),
         ZSetAsk::GetRank {
             key: _,
             member,
             order,
-        } => Ok(telling::rank(alloc, *order, member, live_entry)),
+        } => Ok(telling::rank(*order, member, set)),
         ZSetAsk::RangeByRank {
             key: _,
             first,
             last,
             order,
             reply,
-        } => ranges::by_rank(alloc, *first, *last, *order, *reply, live_entry),
+        } => ranges::by_rank(alloc, *first, *last, *order, *reply, set),
         ZSetAsk::RangeByScore {
             key: _,
             min,
@@ -147,6 +149,6 @@ fn answer_of(
             order,
             limit,
             reply,
-        } => ranges::by_score(alloc, *min, *max, *order, *limit, *reply, live_entry),
+        } => ranges::by_score(alloc, *min, *max, *order, *limit, *reply, set),
     }
 }

@@ -1,16 +1,15 @@
 // Commands that answer a range of the pairs of a sorted set.
-ghost use Rattle.std.specs.Prelude.{◌≡◌, ◌+◌, ◌-◌, ◌≤◌, ℤ, List, ◌++◌, length, map, reverse, slice_range, IfOk, OnOk, option_copied};
+ghost use Rattle.std.specs.Prelude.{◌≡◌, ◌+◌, ◌-◌, ◌≤◌, ℤ, List, ◌++◌, length, map, reverse, slice_range, IfOk, OnOk};
 ghost use Rattle.std.specs.List.{flat_map};
 ghost use Rattle.mr_map.specs.Bytes.{Bytes};
 ghost use Rattle.mr_resp.specs.ReplyView.{view};
 ghost use Rattle.mr_zset.specs.Pairs.{shown};
-ghost use Rattle.mr_cmd_zset.specs.Ranges.{by_rank_answer, by_score_answer, limited, ordered, pair_replies, pairs_reply};
+ghost use Rattle.mr_cmd_zset.specs.Ranges.{limited, ordered, pair_replies, pairs_reply, ranked, scored};
 
-use crate::replies::{score_bulk, set_at};
+use crate::replies::score_bulk;
 use mr_bytes::window;
-use mr_data::Entry;
 use mr_resp::Reply;
-use mr_room::{bulk, wrong_kind};
+use mr_room::bulk;
 use mr_zset::{Bound, Pair, ZSet};
 use mr_zset_options::{Limit, Order, RangeReply};
 use std::alloc::{AllocError, Global};
@@ -22,14 +21,10 @@ pub fn by_rank(
     last: i64,
     order: Order,
     shape: RangeReply,
-    live_entry: Option<&Entry>,
+    set: &ZSet,
 ) -> Result<Reply, AllocError>
-    ensures { IfOk result (λ r. view r ≡ (by_rank_answer first last order shape (option_copied live_entry.entry)).reply) }
+    ensures { IfOk result (λ r. view r ≡ pairs_reply shape (ranked first last order set.now)) }
 {
-    let empty = ZSet::new(alloc);
-    let Some(set) = set_at(live_entry, &empty) else {
-        return Ok(wrong_kind());
-    };
     let Some((first, last)) = window(first, last, set.len()) else {
         return Ok(Reply::Array(Vec::new(alloc)));
     };
@@ -47,14 +42,10 @@ pub fn by_score(
     order: Order,
     limit: Option<Limit>,
     shape: RangeReply,
-    live_entry: Option<&Entry>,
+    set: &ZSet,
 ) -> Result<Reply, AllocError>
-    ensures { IfOk result (λ r. view r ≡ (by_score_answer min max order limit shape (option_copied live_entry.entry)).reply) }
+    ensures { IfOk result (λ r. view r ≡ pairs_reply shape (scored min max order limit set.now)) }
 {
-    let empty = ZSet::new(alloc);
-    let Some(set) = set_at(live_entry, &empty) else {
-        return Ok(wrong_kind());
-    };
     let (first, past) = set.places(min, max);
     let count = past - first;
     let (start, end) = limited_places(limit, count);

@@ -1,53 +1,29 @@
 // Commands that take members out.
-ghost use Rattle.std.specs.Prelude.{◌≡◌, ◌≢◌, ◌∷◌, ◌++◌, ◌<◌, ◌^◌, ◌≤◌, [], length, map, slice_range, take, IfOk, MatchOption, OnOk, Some, option_copied};
+ghost use Rattle.std.specs.Prelude.{◌≡◌, ◌≢◌, ◌∷◌, ◌++◌, ◌<◌, ◌^◌, ◌≤◌, [], length, map, slice_range, take, IfOk, MatchOption, OnOk, Some};
 ghost use Rattle.std.specs.FinMap as finite;
 ghost use Rattle.std.specs.FinMap.{keys};
 ghost use Rattle.mr_resp.specs.ReplyView.{view};
 ghost use Rattle.mr_bytes.specs.Window.{window_of, windowed};
 ghost use Rattle.mr_zset.specs.Pairs.{pairs_of, shown};
 ghost use Rattle.mr_entries.specs.Collections.{without_scores};
-ghost use Rattle.mr_entries.specs.Steps.{sorted_sets};
 ghost use Rattle.mr_effect.specs.declared.effect.Effect.TheVariants as made;
 ghost use Rattle.mr_entries.specs.Cuts.{cut};
-ghost use Rattle.mr_room.specs.Answered.{Takes};
 ghost use Rattle.mr_room.specs.Taken.{texts};
-ghost use Rattle.mr_room.specs.Collections.{changing};
 ghost use Rattle.mr_cmd_zset.specs.Scores.{number, pairs_in, lost, Makes};
 ghost use Rattle.mr_cmd_zset.specs.Removing.{members_of, zrem, zremrangebyrank, zremrangebyscore, as_set, take_pairs};
 
 use crate::grouping::{push_all, push_lost, push_lost_alone};
 use crate::ranges::forward;
-use crate::replies::set_at;
 use mr_arguments::{Argument, Words};
 use mr_bytes::window;
-use mr_data::Entry;
 use mr_resp::Reply;
-use mr_room::{Effects, count, wrong_kind};
+use mr_room::{Effects, count};
 use mr_zset::{Bound, Pair, ZSet};
 use mr_zset_options::{Order, RangeReply};
 use std::alloc::{AllocError, Global};
 
-/// `ZREM`
+/// `ZREM`, which is answered by how many of the members were there.
 pub fn zrem(
-    alloc: Global,
-    key: &Argument<'_>,
-    members: &Words<'_, '_>,
-    live_entry: Option<&Entry>,
-    effects: &mut Effects,
-) -> Result<Reply, AllocError>
-    ensures { IfOk result (λ r. Takes (changing sorted_sets (zrem key.now members.now) (option_copied live_entry.entry)) (view r) effects.old effects.new) }
-{
-    let empty = ZSet::new(alloc);
-    let Some(set) = set_at(live_entry, &empty) else {
-        return Ok(wrong_kind());
-    };
-    let reply = remove_named(alloc, key, members, set, effects)?;
-    Ok(reply)
-}
-
-/// What `ZREM` on a set is answered: how many of the members were there. Its effects are put behind those that are
-/// there.
-fn remove_named(
     alloc: Global,
     key: &Argument<'_>,
     members: &Words<'_, '_>,
@@ -88,28 +64,8 @@ fn in_byte_order(mut members: Vec<&[u8]>) -> Vec<&[u8]>
     members
 }
 
-/// `ZREMRANGEBYRANK`
+/// `ZREMRANGEBYRANK`: the pairs between two indexes go, both included. One alone takes no memory but that of its effect.
 pub fn zremrangebyrank(
-    alloc: Global,
-    key: &Argument<'_>,
-    first: i64,
-    last: i64,
-    live_entry: Option<&Entry>,
-    effects: &mut Effects,
-) -> Result<Reply, AllocError>
-    ensures { IfOk result (λ r. Takes (changing sorted_sets (zremrangebyrank key.now first last) (option_copied live_entry.entry)) (view r) effects.old effects.new) }
-{
-    let empty = ZSet::new(alloc);
-    let Some(set) = set_at(live_entry, &empty) else {
-        return Ok(wrong_kind());
-    };
-    let reply = remove_between(alloc, key, first, last, set, effects)?;
-    Ok(reply)
-}
-
-/// Puts the effects that take the pairs between two indexes out, both included, and answers how many these are. One
-/// alone takes no memory but that of its effect.
-fn remove_between(
     alloc: Global,
     key: &Argument<'_>,
     first: i64,
@@ -117,15 +73,15 @@ fn remove_between(
     set: &ZSet,
     effects: &mut Effects,
 ) -> Result<Reply, AllocError>
-    ensures reply { IfOk result (λ r. view r ≡ number (finite.len (as_set (members_of (windowed (window_of first last (finite.len set.now)) (pairs_of set.now)))))) }
-    ensures effects { OnOk result (effects.new ≡ effects.old ++ map (made.RemoveScores key.now) (cut (keys (as_set (members_of (windowed (window_of first last (finite.len set.now)) (pairs_of set.now))))))) }
+    ensures { IfOk result (λ r. Makes (zremrangebyrank key.now first last set.now) (view r) effects.old effects.new) }
 {
     if let Some(pair) = only_pair(set, first, last) {
         push_lost_alone(alloc, key, pair.member, effects)?;
         return Ok(count(1));
     }
     let (first, past) = places_at(set, first, last);
-    remove_places(alloc, key, first, past, set, effects)
+    let reply = remove_places(alloc, key, first, past, set, effects)?;
+    Ok(reply)
 }
 
 /// The pair between two indexes, both included, if it is the only one.
@@ -156,15 +112,11 @@ pub fn zremrangebyscore(
     key: &Argument<'_>,
     min: Bound,
     max: Bound,
-    live_entry: Option<&Entry>,
+    set: &ZSet,
     effects: &mut Effects,
 ) -> Result<Reply, AllocError>
-    ensures { IfOk result (λ r. Takes (changing sorted_sets (zremrangebyscore key.now min max) (option_copied live_entry.entry)) (view r) effects.old effects.new) }
+    ensures { IfOk result (λ r. Makes (zremrangebyscore key.now min max set.now) (view r) effects.old effects.new) }
 {
-    let empty = ZSet::new(alloc);
-    let Some(set) = set_at(live_entry, &empty) else {
-        return Ok(wrong_kind());
-    };
     let (first, past) = set.places(min, max);
     let reply = remove_places(alloc, key, first, past, set, effects)?;
     Ok(reply)
@@ -245,17 +197,12 @@ pub fn take_pairs(
     key: &Argument<'_>,
     order: Order,
     count: Option<usize>,
-    live_entry: Option<&Entry>,
+    set: &ZSet,
     effects: &mut Effects,
 ) -> Result<Reply, AllocError>
-    ensures { IfOk result (λ r. Takes (changing sorted_sets (take_pairs key.now order count) (option_copied live_entry.entry)) (view r) effects.old effects.new) }
+    ensures { IfOk result (λ r. Makes (take_pairs key.now order count set.now) (view r) effects.old effects.new) }
 {
-    let empty = ZSet::new(alloc);
-    let Some(set) = set_at(live_entry, &empty) else {
-        return Ok(wrong_kind());
-    };
-    let reply = take_from(alloc, key, order, count.unwrap_or(1), set, effects)?;
-    Ok(reply)
+    take_from(alloc, key, order, count.unwrap_or(1), set, effects)
 }
 
 /// What `ZPOPMIN` and `ZPOPMAX` on a set are answered: the first pairs in the order, at most so many, which go.

@@ -4,14 +4,14 @@ ghost use Rattle.std.specs.Iterator.{YieldsFirstBy, item_count};
 ghost use Rattle.std.specs.List.{list_all};
 ghost use Rattle.mr_zset_options.specs.Scored.{has_score, have_scores, is_scored, read_scored, scored_of};
 
-use mr_arguments::{Pairs, PairsIter};
+use mr_arguments::{WordPairs, WordPairsIter};
 use mr_score::read_score;
 use std::marker::Model;
 
 /// Words that follow one another in a request, taken two by two: scores with their members. Each score can be read.
 #[derive(Drop)]
 pub struct ScoredMembers<'a, 't> {
-    pairs: Pairs<'a, 't>,
+    pairs: WordPairs<'a, 't>,
 }
 
 impl<'a, 't> Model for ScoredMembers<'a, 't> {
@@ -27,7 +27,7 @@ impl<'a, 't> Model for ScoredMembers<'a, 't> {
 
 impl<'a, 't> ScoredMembers<'a, 't> {
     /// These pairs, if the first of each is the text of a score. They are not copied.
-    pub fn of(pairs: Pairs<'a, 't>) -> Option<ScoredMembers<'a, 't>>
+    pub fn of(pairs: WordPairs<'a, 't>) -> Option<ScoredMembers<'a, 't>>
         ensures { result ≡ scored_of pairs.entry }
     {
         if have_scores(pairs.iter()) {
@@ -57,7 +57,7 @@ impl<'a, 't> ScoredMembers<'a, 't> {
 }
 
 /// Whether the first of each pair is the text of a score.
-fn have_scores(pairs: PairsIter<'_, '_>) -> bool
+fn have_scores(pairs: WordPairsIter<'_, '_>) -> bool
     ensures { result ≡ have_scores pairs.entry }
 {
     for (score, _) in pairs {
@@ -78,7 +78,7 @@ fn has_score(text: &[u8]) -> bool
 /// The scores with their members that are still to come, seen as a list.
 #[derive(Drop)]
 pub struct ScoredMembersIter<'a, 't> {
-    pairs: PairsIter<'a, 't>,
+    pairs: WordPairsIter<'a, 't>,
 }
 
 impl<'a, 't> Model for ScoredMembersIter<'a, 't> {

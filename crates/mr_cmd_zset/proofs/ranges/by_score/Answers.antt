@@ -1,15 +1,15 @@
 use Rattle.std.proofs.Common.{◌≡◌, ◌∙◌, ◌-◌, ◌≤◌, sym, ap, map, length, arith}
-use Rattle.std.specs.Prelude.{slice_range, option_copied}
+use Rattle.std.specs.Prelude.{slice_range}
 use Rattle.mr_zset.specs.Pairs.{pairs_of, range_of, shown}
 use Rattle.mr_zset.proofs.PairLemmas.{if_ok}
 use Rattle.mr_zset.proofs.StoredChanges.{range_len}
-use Rattle.mr_cmd_zset.specs.Ranges.{ordered, pairs_reply, scored}
-use Rattle.mr_cmd_zset.proofs.RangeLemmas.{part_of_part, scored_part, reply_of}
+use Rattle.mr_cmd_zset.specs.Ranges.{ordered, pairs_reply}
+use Rattle.mr_cmd_zset.proofs.RangeLemmas.{part_of_part, scored_part}
 use Rattle.mr_cmd_zset.proofs.ranges.by_score.Goals as goal
 
 pub returns : goal.returns
 returns c =
-    let set = c.in-Some.set.now in
+    let set = c.args.set.now in
     let found = range_of c.args.min c.args.max set in
     let first = c.places-first.result.0 in
     let past = c.places-first.result.1 in
@@ -21,5 +21,4 @@ returns c =
     if_ok c.listed.result (λ r listed.
     listed
     ∙ ap (λ ps. pairs_reply c.args.shape (ordered c.args.order ps)) (ap (map shown) c.as_slice.ensures.value ∙ c.in_ok-pairs.ensures ∙ part)
-    ∙ ap (pairs_reply c.args.shape) (scored_part c.args.limit c.args.order found (past - first) start end c.limited_places-start.result.0 c.limited_places-start.result.1 (sym count) c.places_in-start.ensures.same c.limited_places-start.ensures.same)
-    ∙ reply_of (λ scores. pairs_reply c.args.shape (scored c.args.min c.args.max c.args.order c.args.limit scores)) (option_copied c.args.live_entry) set c.in-Some.ensures) c.listed.ensures
+    ∙ ap (pairs_reply c.args.shape) (scored_part c.args.limit c.args.order found (past - first) start end c.limited_places-start.result.0 c.limited_places-start.result.1 (sym count) c.places_in-start.ensures.same c.limited_places-start.ensures.same)) c.listed.ensures

@@ -2,7 +2,7 @@ use Rattle.std.proofs.Common.{rules, ◌∙◌, ap, sym, w64, FitsSigned}
 use Rattle.std.proofs.lemmas.Int.{to_z-of_z}
 use Rattle.mr_cmd_zset.specs.Scores.{score_reply}
 use Rattle.mr_cmd_zset.proofs.Adds.{sum_made}
-use Rattle.mr_cmd_zset.proofs.adding.increase_in.Goals as goal
+use Rattle.mr_cmd_zset.proofs.adding.zincrby.Goals as goal
 
 pub returns : goal.returns
 returns c =

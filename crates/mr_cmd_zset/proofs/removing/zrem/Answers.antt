@@ -6,7 +6,7 @@ use Rattle.mr_effect.specs.declared.effect.Effect.TheVariants as made
 use Rattle.mr_entries.specs.Cuts.{cut}
 use Rattle.mr_room.specs.Taken.{texts}
 use Rattle.mr_cmd_zset.proofs.Removals.{reduced_made}
-use Rattle.mr_cmd_zset.proofs.removing.remove_named.Goals as goal
+use Rattle.mr_cmd_zset.proofs.removing.zrem.Goals as goal
 
 pub returns : goal.returns
 returns c =
