@@ -15,7 +15,7 @@ use std::marker::Model;
 
 /// Whose it is, what a client has begun there and not ended, what was fed and not used, how far the reader has gone over it, and what a replica told of itself.
 #[derive(Drop)]
-pub struct End {
+pub struct LinkEnd {
     kind: Kind,
     transaction: Option<Transaction>,
     unread: Buffer,
@@ -24,7 +24,7 @@ pub struct End {
     acknowledged: i64,
 }
 
-impl Model for End {
+impl Model for LinkEnd {
     ghost use Rattle.mr_ends.specs.State.{EndState, end_code};
     ghost use Rattle.mr_ends.specs.Ending.{end_as};
     ghost use Rattle.mr_ends.specs.Progresses.{Fits};
@@ -39,7 +39,7 @@ impl Model for End {
 }
 
 // What is asked of it.
-impl End {
+impl LinkEnd {
     /// Whose it is.
     pub fn kind(&self) -> Kind
         ensures { result ≡ kind_of self.now }
@@ -114,14 +114,14 @@ impl End {
 }
 
 // What becomes of it.
-impl End {
+impl LinkEnd {
     /// An end of this kind, to which nothing was fed, and which said nothing of itself.
     #[tactic(auto, using(crate::proofs::Progressing::fresh_along))]
-    fn of(alloc: Global, kind: Kind) -> End
+    fn of(alloc: Global, kind: Kind) -> LinkEnd
         ensures client { kind ≡ Kind.Client → result ≡ client [] }
         ensures upstream { kind ≡ Kind.Upstream → result ≡ upstream }
     {
-        End {
+        LinkEnd {
             kind,
             transaction: None,
             unread: Buffer::new(alloc),
@@ -132,17 +132,17 @@ impl End {
     }
 
     /// A client's end, to which nothing was fed.
-    pub(crate) fn client(alloc: Global) -> End
+    pub(crate) fn client(alloc: Global) -> LinkEnd
         ensures { result ≡ client [] }
     {
-        End::of(alloc, Kind::Client)
+        LinkEnd::of(alloc, Kind::Client)
     }
 
     /// The end of a link to a master.
-    pub(crate) fn upstream(alloc: Global) -> End
+    pub(crate) fn upstream(alloc: Global) -> LinkEnd
         ensures { result ≡ upstream }
     {
-        End::of(alloc, Kind::Upstream)
+        LinkEnd::of(alloc, Kind::Upstream)
     }
 
     /// Keeps how far the reader has gone.

@@ -1,13 +1,14 @@
-ghost use Rattle.std.specs.Prelude.{◌≡◌, ◌+◌, ◌<◌, ◌^◌, ℕ, List, None, Some, [], length, take, false, IfOk, not, filter, OnOk, OnErr, IsSome, option_copied};
+ghost use Rattle.std.specs.Prelude.{◌≡◌, ◌+◌, ◌<◌, ℕ, List, None, Some, [], length, take, false, IfOk, not, filter, OnOk, OnErr, IsSome, option_copied};
 ghost use Rattle.std.specs.FinMap as map;
 ghost use Rattle.std.specs.Ordering.{eq_by_cmp};
 ghost use Rattle.mr_links.specs.LinkId.{id_cmp};
+ghost use Rattle.mr_links.specs.Links.{links_limit};
 ghost use Rattle.mr_ends.specs.State.{CanWait, Transaction as Open, end_at, opened_as, put_end, streams, without};
 ghost use Rattle.mr_ends.specs.State.EndState.{client, shut, upstream, waiting};
 ghost use Rattle.mr_ends.specs.Replicas.{Lists, ShutsReplicas};
 ghost use Rattle.mr_ends.specs.Parts.{BeginsAt, HasAhead, HasOpen, HasRoom, HearsAt, IsClient, KeepsOn, MarksAt, PutsBack, TakesOut, TurnsAt, UsesAt, WaitsAt};
 
-use crate::end::End;
+use crate::end::LinkEnd;
 use crate::introduction::Introduction;
 use crate::shutting::shut_all;
 use crate::transaction::Transaction;
@@ -21,7 +22,7 @@ use std::marker::Model;
 #[derive(Drop)]
 pub struct Ends {
     alloc: Global,
-    links: Links<End>,
+    links: Links<LinkEnd>,
     replicas: Vec<LinkId>,
 }
 
@@ -61,7 +62,7 @@ impl Ends {
     }
 
     /// The end of this name, if it is there.
-    pub fn get(&self, link: LinkId) -> Option<&End>
+    pub fn get(&self, link: LinkId) -> Option<&LinkEnd>
         ensures { option_copied result ≡ end_at self.now link }
     {
         self.links.get(link)
@@ -78,8 +79,8 @@ impl Ends {
 // What becomes of one.
 impl Ends {
     /// Opens an end that the stream isn't sent to, under a new name. Where memory is lacking nothing has changed.
-    fn insert(&mut self, end: End) -> Result<LinkId, AllocError>
-        requires few { self.old.opened < 2 ^ 62 }
+    fn insert(&mut self, end: LinkEnd) -> Result<LinkId, AllocError>
+        requires few { self.old.opened < links_limit }
         requires quiet { streams (Some end) ≡ false }
         ensures fresh { IfOk result (λ id. end_at self.old id ≡ None) }
         ensures generation { IfOk result (λ id. id.generation ≡ self.old.opened) }
@@ -94,13 +95,13 @@ impl Ends {
 
     /// Opens a client's end under a new name. Where memory is lacking nothing has changed.
     pub fn open(&mut self) -> Result<LinkId, AllocError>
-        requires { self.old.opened < 2 ^ 62 }
+        requires { self.old.opened < links_limit }
         ensures fresh { IfOk result (λ id. end_at self.old id ≡ None) }
         ensures generation { IfOk result (λ id. id.generation ≡ self.old.opened) }
         ensures opens { IfOk result (λ id. self.new ≡ opened_as self.old id (client [])) }
         ensures err { OnErr result (self.new ≡ self.old) }
     {
-        self.insert(End::client(self.alloc))
+        self.insert(LinkEnd::client(self.alloc))
     }
 
     /// Undoes `open`: takes out a client's end that was opened last, and of which nothing is unread, as if it had never been opened.
@@ -116,13 +117,13 @@ impl Ends {
 
     /// Opens the end of a link to a master under a new name. Where memory is lacking nothing has changed.
     pub fn dial(&mut self) -> Result<LinkId, AllocError>
-        requires { self.old.opened < 2 ^ 62 }
+        requires { self.old.opened < links_limit }
         ensures fresh { IfOk result (λ id. end_at self.old id ≡ None) }
         ensures generation { IfOk result (λ id. id.generation ≡ self.old.opened) }
         ensures opens { IfOk result (λ id. self.new ≡ opened_as self.old id upstream) }
         ensures err { OnErr result (self.new ≡ self.old) }
     {
-        self.insert(End::upstream(self.alloc))
+        self.insert(LinkEnd::upstream(self.alloc))
     }
 
     /// Puts bytes behind the unread ones.

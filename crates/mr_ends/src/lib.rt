@@ -8,7 +8,7 @@ mod kind;
 mod shutting;
 mod transaction;
 
-pub use end::End;
+pub use end::LinkEnd;
 pub use ends::Ends;
 pub use introduction::Introduction;
 pub use kind::Kind;

@@ -2,11 +2,11 @@
 ghost use Rattle.std.specs.Prelude.{◌≡◌, [], ◌∷◌};
 ghost use Rattle.mr_ends.specs.Replicas.{ShutsNamed};
 
-use crate::end::End;
+use crate::end::LinkEnd;
 use mr_links::{LinkId, Links};
 
 /// Closes the end of this name, if it is there.
-fn shut_one(links: &mut Links<End>, name: LinkId)
+fn shut_one(links: &mut Links<LinkEnd>, name: LinkId)
     ensures ends { ShutsNamed links.old.open_links (name ∷ []) links.new.open_links }
     ensures opened { links.new.opened ≡ links.old.opened }
 {
@@ -17,7 +17,7 @@ fn shut_one(links: &mut Links<End>, name: LinkId)
 }
 
 /// Closes those of these names.
-pub(crate) fn shut_all(links: &mut Links<End>, names: &[LinkId])
+pub(crate) fn shut_all(links: &mut Links<LinkEnd>, names: &[LinkId])
     ensures ends { ShutsNamed links.old.open_links names.now links.new.open_links }
     ensures opened { links.new.opened ≡ links.old.opened }
 {

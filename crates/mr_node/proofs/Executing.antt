@@ -17,6 +17,7 @@ use Rattle.mr_entries.specs.Changes.{NeedsNoMemory}
 use Rattle.mr_effect.specs.declared.effect.Effect.{Effect}
 use Rattle.mr_data.specs.declared.given.Given.{Given}
 use Rattle.mr_data.specs.Meaning.{apply_all}
+use Rattle.mr_repl.specs.Backlog.{offset_limit}
 use Rattle.mr_groups.specs.Groups.{exec, frame_for, grown_text, multi}
 use Rattle.mr_groups.proofs.Lengths.{as_many, grown_length}
 use Rattle.mr_repl.specs.Lineage.{grown}
@@ -33,7 +34,7 @@ use Rattle.mr_commands.specs.declared.transactions.Within.TheVariants as within
 use Rattle.mr_commands.proofs.Doing.{do_nothing, do_so, does_more, has_so, have_none, one_more, replied}
 use Rattle.mr_outs.specs.Outs.{OutsState, no_outs}
 use Rattle.mr_rows.specs.State.{Core, NodeState, end_of, spent_as, stopped_as}
-use Rattle.mr_rows.specs.Growing.{FedTo, offset_limit}
+use Rattle.mr_rows.specs.Growing.{FedTo}
 use Rattle.mr_rows.specs.Telling.{Around, IsAround, answer_about, link_of, role_answer}
 use Rattle.mr_rows.specs.Transactions.{WithinRow, as_trees, frame_of}
 use Rattle.mr_state.specs.Parts.{Holds, Spends, streams_on, with_ends}

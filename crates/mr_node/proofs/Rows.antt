@@ -16,6 +16,7 @@ use Rattle.mr_data.specs.Meaning.{apply_all}
 use Rattle.mr_data.specs.Rebuilding.{rebuilding}
 use Rattle.mr_data.specs.declared.given.Given.{Given}
 use Rattle.mr_data.specs.declared.plan.Plan.{Plan}
+use Rattle.mr_repl.specs.Backlog.{offset_limit}
 use Rattle.mr_cmd_server.specs.declared.question.Question.{Question}
 use Rattle.mr_room.specs.Answered.{done}
 use Rattle.mr_room.proofs.Laws.{command_texts}
@@ -25,7 +26,7 @@ use Rattle.mr_ends.specs.Replicas.{Lists}
 use Rattle.mr_outs.specs.Outs.{Output, no_outs, no_output, growth, outs_with}
 use Rattle.mr_rows.specs.State.{NodeState, end_of}
 use Rattle.mr_rows.specs.Requests.{IsDoomedBy}
-use Rattle.mr_rows.specs.Growing.{FedTo, Remakes, grown_by, offset_behind, offset_limit, limit_text}
+use Rattle.mr_rows.specs.Growing.{FedTo, Remakes, grown_by, offset_behind, limit_text}
 use Rattle.mr_rows.specs.Ends.{Leaves}
 use Rattle.mr_rows.specs.Telling.{Around, IsAround, link_of, reply_about}
 use Rattle.mr_rows.specs.Served.{Answered, Served, left_of, rewritten_as, says}

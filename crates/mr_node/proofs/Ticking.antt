@@ -21,10 +21,11 @@ use Rattle.mr_entries.specs.Changes.{change, NeedsNoMemory}
 use Rattle.mr_data.specs.Meaning.{apply, apply_all}
 use Rattle.mr_data.specs.declared.due.DueKey.{DueKey}
 use Rattle.mr_data.specs.Due.{due, deletions, most_deleted, shown, HasWord, within}
+use Rattle.mr_repl.specs.Backlog.{offset_limit}
 use Rattle.mr_ends.specs.Replicas.{Lists, is_named}
 use Rattle.mr_outs.specs.Outs.{OutsState, no_outs}
 use Rattle.mr_rows.specs.State.{NodeState}
-use Rattle.mr_rows.specs.Growing.{FedTo, grown_by, offset_limit}
+use Rattle.mr_rows.specs.Growing.{FedTo, grown_by}
 use Rattle.mr_rows.specs.TimeRows.{Beats, HasReplicas, TickRow, room_in}
 use Rattle.mr_rows.specs.TimeRows as time
 use Rattle.mr_state.specs.Parts.{Commits}

@@ -1,6 +1,7 @@
 -- What the other calls on a node come to.
-use Rattle.std.specs.Prelude.{◌≡◌, ◌≢◌, ◌≤◌, ◌<◌, ◌^◌, ℕ, ℤ, List, [], true, false, Option, Some, None, Result, Ok, Err, length}
+use Rattle.std.specs.Prelude.{◌≡◌, ◌≢◌, ◌≤◌, ◌<◌, ℕ, ℤ, List, [], true, false, Option, Some, None, Result, Ok, Err, length}
 use Rattle.mr_links.specs.declared.link_id.LinkId.{LinkId}
+use Rattle.mr_links.specs.Links.{links_limit}
 use Rattle.mr_outs.specs.Outs.{OutsState}
 use Rattle.mr_ends.specs.State.{Transaction}
 use Rattle.mr_ends.specs.State.EndState.{shut as closed}
@@ -10,10 +11,10 @@ use Rattle.mr_rows.specs.TimeRows.{TickRow}
 use Rattle.mr_node.specs.declared.fault.NodeFault.{NodeFault}
 use Rattle.mr_node.specs.declared.fault.NodeFault.TheVariants as fault
 
--- It is told so of a stopped node, which stays; and of one that has opened 2^62 links, which stops.
+-- It is told so of a stopped node, which stays; and of one that has opened as many links as there may be, which stops.
 pub data OpensNoMore (a b : NodeState) : Type 0 where
   down : a.core.up ≡ false → b ≡ a → OpensNoMore a b
-  spent : a.core.up ≡ true → 2 ^ 62 ≤ a.ends.opened → b ≡ stopped_as a → OpensNoMore a b
+  spent : a.core.up ≡ true → links_limit ≤ a.ends.opened → b ≡ stopped_as a → OpensNoMore a b
 
 -- a client's link is opened
 abbrev pub OpenRow : NodeState → NodeState → Result LinkId NodeFault → Type 0
@@ -54,7 +55,7 @@ TickStep a now b (Err fault.InputFull) = ⊥
 -- one more link may be opened
 pub record OpensOn (a b : NodeState) : Type 0 where
   pub up : a.core.up ≡ true
-  pub few : a.ends.opened < 2 ^ 62
+  pub few : a.ends.opened < links_limit
   pub same : b ≡ a
 
 -- how many bytes of a link are unread

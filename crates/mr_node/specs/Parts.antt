@@ -7,6 +7,7 @@ use Rattle.mr_effect.specs.Spelling.{texts}
 use Rattle.mr_effect.specs.declared.effect.Effect.{Effect}
 use Rattle.mr_data.specs.Meaning.{apply_all}
 use Rattle.mr_repl.specs.Lineage.{LineageState}
+use Rattle.mr_repl.specs.Backlog.{offset_limit}
 use Rattle.mr_cmd_node.specs.declared.node_ask.NodeAsk.{NodeAsk}
 use Rattle.mr_cmd_server.specs.declared.question.Question.{Question}
 use Rattle.mr_ends.specs.State.{EndState}
@@ -16,7 +17,7 @@ use Rattle.mr_outs.specs.Outs.{Output, OutsState}
 use Rattle.mr_rows.specs.State.{Core, IsNode, NodeState, end_of}
 use Rattle.mr_rows.specs.ClientRows.{IsAnswerToPsync}
 use Rattle.mr_rows.specs.Ends.{Leaves}
-use Rattle.mr_rows.specs.Growing.{FedTo, grown_by, offset_behind, offset_limit, limit_text}
+use Rattle.mr_rows.specs.Growing.{FedTo, grown_by, offset_behind, limit_text}
 use Rattle.mr_info.specs.Info.{info_text}
 use Rattle.mr_rows.specs.Telling.{Around, IsAround, answer_about, link_of}
 use Rattle.mr_rows.specs.Served.{IsQuiet}

@@ -8,9 +8,10 @@ use Rattle.mr_effect.specs.declared.effect.Effect.TheVariants as effect
 use Rattle.mr_entries.specs.Dataset.{Dataset}
 use Rattle.mr_data.specs.Due.{deletions, within}
 use Rattle.mr_data.specs.declared.due.DueKey.{DueKey}
+use Rattle.mr_repl.specs.Backlog.{offset_limit}
 use Rattle.mr_outs.specs.Outs.{OutsState, no_outs}
 use Rattle.mr_rows.specs.State.{NodeState}
-use Rattle.mr_rows.specs.Growing.{FedTo, offset_behind, offset_limit}
+use Rattle.mr_rows.specs.Growing.{FedTo, offset_behind}
 use Rattle.mr_rows.specs.TimeRows.{Beats, HasNone, HasPassed, HasReplicas, IsUnmarked, IsWaiting, beat_after, room_in}
 use Rattle.mr_rows.specs.TimeRows as time
 use Rattle.mr_node.specs.declared.node.ticking.Since.{Since}

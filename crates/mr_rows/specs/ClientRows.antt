@@ -14,9 +14,8 @@ use Rattle.mr_room.specs.Answered.{done}
 use Rattle.mr_commands.specs.Requests.{AsksNode, HasPlan, halts as is_halting, quits}
 use Rattle.mr_cmd_node.specs.declared.node_ask.NodeAsk.TheVariants as node
 use Rattle.mr_repl.specs.Lineage.{LineageState, standing_of, renamed}
-use Rattle.mr_repl.specs.Backlog.{bytes_from}
+use Rattle.mr_repl.specs.Backlog.{bytes_from, offset_limit}
 use Rattle.mr_repl.specs.Standing.{MayContinue}
-use Rattle.mr_peer_lines.specs.Lines.{most_counted}
 use Rattle.mr_peer_lines.specs.Written.{reply_line, length_line}
 use Rattle.mr_peer_lines.specs.declared.psync.PsyncReply.TheVariants.{FullResync, Continue}
 use Rattle.mr_course.specs.State.{name_of}
@@ -28,7 +27,7 @@ use Rattle.mr_outs.specs.Outs.{OutsState, Output, no_outs, outs_with}
 use Rattle.mr_rows.specs.State.{NodeState, IsShut, OthersStay}
 use Rattle.mr_rows.specs.Sound.{ports}
 use Rattle.mr_rows.specs.Requests.{Asks, Waits, IsDoomedBy}
-use Rattle.mr_rows.specs.Growing.{FedTo, Remakes, offset_behind, offset_limit, rebuilt}
+use Rattle.mr_rows.specs.Growing.{FedTo, Remakes, offset_behind, rebuilt}
 use Rattle.mr_rows.specs.Telling.{Around, IsAround}
 use Rattle.mr_rows.specs.Ends.{Leaves, Settles, names_of}
 use Rattle.mr_rows.specs.Served.{Served}
@@ -82,7 +81,7 @@ pub record Halts (a : NodeState) (l : LinkId) (u : List ℕ) (b : NodeState) (ou
 -- a dataset, the offset at which it stands.
 pub data IsAnswerToPsync (a : LineageState) (m : Dataset) (id : List ℕ) (wanted : ℤ) (text : List ℕ) : Type 0 where
   continues : (from : ℕ) → wanted ≡ pos from → MayContinue (standing_of a) id from → text ≡ reply_line (Continue a.id) ++ bytes_from a.stream from → IsAnswerToPsync a m id wanted text
-  resynchronizes : ((from : ℕ) → wanted ≡ pos from → MayContinue (standing_of a) id from → ⊥) → Remakes (rebuilding m) m → length (rebuilt m) ≤ most_counted
+  resynchronizes : ((from : ℕ) → wanted ≡ pos from → MayContinue (standing_of a) id from → ⊥) → Remakes (rebuilding m) m → length (rebuilt m) ≤ offset_limit
       → text ≡ reply_line (FullResync a.id a.stream.offset) ++ (length_line (length (rebuilt m)) ++ rebuilt m) → IsAnswerToPsync a m id wanted text
 
 -- A master is asked for its stream: all that stands ready is sent in one, and the link is a replica's from then on.

@@ -6,6 +6,7 @@ use Rattle.mr_data.specs.Rebuilding.{rebuilding}
 use Rattle.mr_data.specs.declared.given.Given.{Given}
 use Rattle.mr_effect.specs.Spelling.{texts}
 use Rattle.mr_effect.specs.declared.effect.Effect.{Effect}
+use Rattle.mr_repl.specs.Backlog.{offset_limit}
 use Rattle.mr_cmd_node.specs.declared.node_ask.ReplicaOption.{ReplicaOption}
 use Rattle.mr_cmd_node.specs.declared.node_ask.NodeAsk.{NodeAsk}
 use Rattle.mr_cmd_node.specs.declared.node_ask.NodeAsk.TheVariants as node
@@ -17,7 +18,7 @@ use Rattle.mr_commands.specs.Requests.{AsksNode, HasPlan, IsPlain, left, questio
 use Rattle.mr_outs.specs.Outs.{Output, no_output, growth}
 use Rattle.mr_rows.specs.State.{Core}
 use Rattle.mr_rows.specs.Requests.{Asks, AsksNothing}
-use Rattle.mr_rows.specs.Growing.{Remakes, grown_by, offset_behind, offset_limit, limit_text, rebuilt}
+use Rattle.mr_rows.specs.Growing.{Remakes, grown_by, offset_behind, limit_text, rebuilt}
 use Rattle.mr_rows.specs.Telling.{Around, reply_about}
 
 -- what a request leaves of a node's dataset

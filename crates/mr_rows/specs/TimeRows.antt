@@ -7,12 +7,13 @@ use Rattle.mr_effect.specs.declared.effect.Effect.TheVariants as effect
 use Rattle.mr_entries.specs.Dataset.{Dataset}
 use Rattle.mr_data.specs.Due.{due, deletions, most_deleted, within}
 use Rattle.mr_data.specs.Meaning.{apply_all}
+use Rattle.mr_repl.specs.Backlog.{offset_limit}
 use Rattle.mr_follow.specs.State.{FollowState}
 use Rattle.mr_follow.specs.declared.phase.Phase.TheVariants as phase
 use Rattle.mr_ends.specs.State.{streams}
 use Rattle.mr_outs.specs.Outs.{OutsState, no_outs}
 use Rattle.mr_rows.specs.State.{NodeState, Core, end_of}
-use Rattle.mr_rows.specs.Growing.{FedTo, grown_by, offset_limit}
+use Rattle.mr_rows.specs.Growing.{FedTo, grown_by}
 use Rattle.mr_rows.specs.Acknowledging.{acknowledgement}
 
 -- so many milliseconds pass between heartbeats, and between acknowledgements

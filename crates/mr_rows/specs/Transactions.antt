@@ -5,6 +5,7 @@ use Rattle.mr_resp.specs.Replies.{Tree, Trees, array, none, more, reply_text}
 use Rattle.mr_entries.specs.Dataset.{Dataset}
 use Rattle.mr_effect.specs.declared.effect.Effect.{Effect}
 use Rattle.mr_data.specs.declared.given.Given.{Given}
+use Rattle.mr_repl.specs.Backlog.{offset_limit}
 use Rattle.mr_groups.specs.Groups.{grown_text}
 use Rattle.mr_repl.specs.Lineage.{grown}
 use Rattle.mr_room.specs.Answered.{done}
@@ -14,7 +15,7 @@ use Rattle.mr_ends.specs.State.EndState.{client, waiting}
 use Rattle.mr_outs.specs.Outs.{OutsState, no_outs, outs_with, growth}
 use Rattle.mr_rows.specs.State.{NodeState}
 use Rattle.mr_rows.specs.Requests.{Asks, AsksNothing}
-use Rattle.mr_rows.specs.Growing.{FedTo, offset_limit}
+use Rattle.mr_rows.specs.Growing.{FedTo}
 use Rattle.mr_rows.specs.Telling.{Around, IsAround, answer_about}
 use Rattle.mr_rows.specs.Ends.{Leaves}
 use Rattle.mr_rows.specs.ClientRows.{Closes}

@@ -5,13 +5,14 @@ ghost use Rattle.mr_resp.specs.Replies.{error, reply_text};
 ghost use Rattle.mr_resp.specs.Faults.{fault_text};
 ghost use Rattle.mr_effect.specs.Spelling.{texts};
 ghost use Rattle.mr_data.specs.declared.given.Given.{Given};
+ghost use Rattle.mr_repl.specs.Backlog.{offset_limit};
 ghost use Rattle.mr_room.specs.Answered.{done};
 ghost use Rattle.mr_ends.specs.State.{EndState, Transaction, serves};
 ghost use Rattle.mr_ends.specs.Parts.{HasAhead};
 ghost use Rattle.mr_outs.specs.Outs.{growth, outs_with, no_output, no_outs};
 ghost use Rattle.mr_rows.specs.State.{Agrees, end_of};
 ghost use Rattle.mr_rows.specs.ClientRows.{Ends, MayLack};
-ghost use Rattle.mr_rows.specs.Growing.{offset_behind, offset_limit};
+ghost use Rattle.mr_rows.specs.Growing.{offset_behind};
 ghost use Rattle.mr_rows.specs.Served.{rewritten_as};
 ghost use Rattle.mr_node.specs.Reading.{HaltsAt, Passes, Quits, Rewrites, Runs};
 ghost use Rattle.mr_rows.specs.Requests.{IsDoomedBy};
@@ -26,11 +27,9 @@ use crate::step::Outcome;
 use mr_data::Plan;
 use mr_links::LinkId;
 use mr_outs::Outs;
+use mr_repl::OFFSET_LIMIT;
 use mr_resp::{Fault, Reply};
 use std::alloc::AllocError;
-
-/// No offset is greater.
-pub(crate) const LIMIT: u64 = 0x4000_0000_0000_0000;
 
 // Requests without effects.
 impl Node {
@@ -158,7 +157,7 @@ impl Node {
         ensures { IfOk result (λ fits. Tells self.now.core (view plan.now.reply) plan.now.effects.items outs.old fits outs.new) }
     {
         outs.grow(plan.effects.as_slice())?;
-        if outs.grown().len() as u64 > LIMIT - self.state.lineage().stream().end() {
+        if outs.grown().len() as u64 > OFFSET_LIMIT - self.state.lineage().stream().end() {
             outs.drop_grown();
             outs.say(&past_the_limit())?;
             return Ok(false);

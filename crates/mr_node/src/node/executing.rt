@@ -24,7 +24,6 @@ ghost use Rattle.mr_commands.specs.declared.transactions.Within.TheVariants as w
 
 use crate::fault::NodeFault;
 use crate::node::Node;
-use crate::node::answering::LIMIT;
 use crate::replies::past_the_limit;
 use crate::step::Outcome;
 use crate::todo::{Todo, request_todo};
@@ -34,6 +33,7 @@ use mr_data::{Given, Plan};
 use mr_groups::{FRAME, exec_text, multi_text};
 use mr_links::LinkId;
 use mr_outs::Outs;
+use mr_repl::OFFSET_LIMIT;
 use mr_resp::{Reply, Scan, next_request, words_fit};
 use std::alloc::AllocError;
 use std::borrow::CowSlice;
@@ -206,7 +206,7 @@ impl Node {
         if count == 0 {
             return say_only(&reply, outs);
         }
-        let room = LIMIT - self.state.lineage().stream().end();
+        let room = OFFSET_LIMIT - self.state.lineage().stream().end();
         let frame = frame_round(before, count);
         if room < frame {
             return say_only(&past_the_limit(), outs);

@@ -6,10 +6,9 @@ ghost use Rattle.mr_node.specs.Calls.{DialRow, FeedRow, IsClients, IsUnread, Ope
 
 use crate::fault::NodeFault;
 use crate::node::Node;
-use crate::node::answering::LIMIT;
 use mr_ends::Kind;
 use mr_follow::fed_bytes_are_unread;
-use mr_links::LinkId;
+use mr_links::{LINKS_LIMIT, LinkId};
 use mr_outs::Outs;
 use std::hash::RandomState;
 
@@ -76,7 +75,7 @@ impl Node {
         if !self.state.up() {
             return true;
         }
-        if self.state.ends().opened() < LIMIT {
+        if self.state.ends().opened() < LINKS_LIMIT {
             return false;
         }
         self.state.stop();

@@ -4,8 +4,7 @@ ghost use Rattle.mr_data.specs.declared.given.Given.{Given};
 ghost use Rattle.mr_cmd_node.specs.declared.node_ask.NodeAsk.TheVariants as node;
 ghost use Rattle.mr_ends.specs.Parts.{IsClient};
 ghost use Rattle.mr_outs.specs.Outs.{no_outs};
-ghost use Rattle.mr_repl.specs.Backlog.{first_of, bytes_from};
-ghost use Rattle.mr_peer_lines.specs.Lines.{most_counted};
+ghost use Rattle.mr_repl.specs.Backlog.{first_of, bytes_from, offset_limit};
 ghost use Rattle.mr_peer_lines.specs.Written.{reply_line, length_line};
 ghost use Rattle.mr_peer_lines.specs.declared.psync.PsyncReply.TheVariants.{FullResync, Continue};
 ghost use Rattle.mr_rows.specs.Growing.{Remakes, rebuilt};
@@ -16,13 +15,12 @@ ghost use Rattle.mr_node.specs.Parts.{Offers};
 
 use crate::fault::NodeFault;
 use crate::node::Node;
-use crate::node::answering::LIMIT;
 use crate::request::StreamWish;
 use crate::step::Outcome;
 use mr_links::LinkId;
 use mr_outs::Outs;
 use mr_peer_lines::{write_continue, write_full, write_length};
-use mr_repl::{PsyncAnswer, decide};
+use mr_repl::{OFFSET_LIMIT, PsyncAnswer, decide};
 use std::alloc::AllocError;
 
 impl Node {
@@ -81,14 +79,14 @@ impl Node {
     fn put_dataset(&self, outs: &mut Outs) -> Result<(), AllocError>
         requires { outs.old.reply ≡ [] }
         ensures remakes { OnOk result (Remakes (rebuilding self.now.core.held) self.now.core.held) }
-        ensures counted { OnOk result (length (rebuilt self.now.core.held) ≤ most_counted) }
+        ensures counted { OnOk result (length (rebuilt self.now.core.held) ≤ offset_limit) }
         ensures text { OnOk result (outs.new ≡ record outs.old {
           reply = reply_line (FullResync self.now.core.lineage.id self.now.core.lineage.stream.offset) ++ (length_line (length (rebuilt self.now.core.held)) ++ rebuilt self.now.core.held);
         }) }
     {
         let lineage = self.state.lineage();
         let texts = self.state.held().rebuild(self.alloc)?;
-        if texts.len() as u64 > LIMIT {
+        if texts.len() as u64 > OFFSET_LIMIT {
             return Err(AllocError);
         }
         let mut lines = Vec::new(self.alloc);

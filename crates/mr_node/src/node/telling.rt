@@ -1,5 +1,6 @@
 // What a node tells of itself.
 ghost use Rattle.std.specs.Prelude.{◌≡◌, ◌↔◌, ◌⊎◌, ℕ, List, Some, false, IfOk, IfErr, IsErrOf, length, not, option_copied};
+ghost use Rattle.std.specs.FinMap as map;
 ghost use Rattle.mr_resp.specs.ReplyView.{view};
 ghost use Rattle.mr_data.specs.declared.given.Given.{Given};
 ghost use Rattle.mr_info.specs.Info.{info_text};
@@ -17,7 +18,7 @@ use crate::node::Node;
 use crate::role::Role;
 use crate::step::Outcome;
 use mr_cmd_server::Question;
-use mr_ends::End;
+use mr_ends::LinkEnd;
 use mr_follow::Phase;
 use mr_info::{MasterLink, Replica, info, master_role, replica_role};
 use mr_links::LinkId;
@@ -139,6 +140,13 @@ impl Node {
         self.state.upstream()
     }
 
+    /// How many keys its dataset has, expired ones included, stopped or not. It takes no memory.
+    pub fn key_count(&self) -> usize
+        ensures { result ≡ map.len self.now.core.held }
+    {
+        self.state.held().len()
+    }
+
     /// How far a replica has come with the link to its master.
     fn master_link(&self) -> MasterLink
         ensures { result ≡ link_of self.now.follow }
@@ -165,7 +173,7 @@ impl Node {
 }
 
 /// A replica, as it said of itself at its end.
-fn seen(end: Option<&End>) -> Replica<'_> {
+fn seen(end: Option<&LinkEnd>) -> Replica<'_> {
     let Some(end) = end else {
         return Replica {
             address: None,

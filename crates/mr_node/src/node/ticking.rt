@@ -13,13 +13,13 @@ ghost use Rattle.mr_node.specs.Ticking.{Doomed, Fitting, IsSince, PutsBeats, Sin
 
 use crate::fault::NodeFault;
 use crate::node::Node;
-use crate::node::answering::LIMIT;
 use itoa::Buffer;
 use mr_bytes::Word;
 use mr_data::{Dataset, DueKey, Effect, Given};
 use mr_follow::Phase;
 use mr_links::LinkId;
 use mr_outs::Outs;
+use mr_repl::OFFSET_LIMIT;
 use mr_resp::write_request;
 use std::alloc::{AllocError, Global};
 
@@ -118,7 +118,7 @@ impl Node {
         requires moment { IsMoment now }
         ensures { IfOk result (λ beats. PutsBeats self.now now beats outs.new) }
     {
-        let room = LIMIT - self.state.lineage().stream().end();
+        let room = OFFSET_LIMIT - self.state.lineage().stream().end();
         let Deletions { effects, whole } = doomed(self.alloc, self.state.held(), now, room, outs)?;
         let mut effects = effects;
         let marks = match self.since_beat(now, whole) {

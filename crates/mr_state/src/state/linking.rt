@@ -1,5 +1,6 @@
 // Links that come, are fed and go.
-ghost use Rattle.std.specs.Prelude.{◌≡◌, ◌+◌, ◌<◌, ◌^◌, [], true, false, not, length, None, Some, IfOk, OnOk, OnErr};
+ghost use Rattle.std.specs.Prelude.{◌≡◌, ◌+◌, ◌<◌, [], true, false, not, length, None, Some, IfOk, OnOk, OnErr};
+ghost use Rattle.mr_links.specs.Links.{links_limit};
 ghost use Rattle.mr_ends.specs.State.{EndState, end_at, put_end, serves};
 ghost use Rattle.mr_ends.specs.State.EndState.{shut};
 ghost use Rattle.mr_ends.specs.Parts.{HasAhead, HasRoom, KeepsOn, IsClient, UsesAt, HearsAt, TurnsAt};
@@ -19,7 +20,7 @@ use std::hash::RandomState;
 impl State {
     /// Opens a client's end under a name that was never given before.
     pub fn open(&mut self) -> Result<LinkId, AllocError>
-        requires few { self.old.ends.opened < 2 ^ 62 }
+        requires few { self.old.ends.opened < links_limit }
         ensures ok { IfOk result (λ l. Opens self.old l self.new) }
         ensures err { OnErr result (self.new ≡ self.old) }
     {
@@ -37,7 +38,7 @@ impl State {
 
     /// Opens the end of a link to the master. The datasets of snapshots have this seed, which changes no answer.
     pub fn dial(&mut self, seed: RandomState) -> Result<LinkId, AllocError>
-        requires few { self.old.ends.opened < 2 ^ 62 }
+        requires few { self.old.ends.opened < links_limit }
         requires replica { self.old.core.master ≡ false }
         requires alone { self.old.follow ≡ None }
         ensures fresh { IfOk result (λ l. end_of self.old l ≡ None) }

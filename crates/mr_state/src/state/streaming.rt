@@ -3,7 +3,7 @@ ghost use Rattle.std.specs.Prelude.{◌≡◌, ◌≢◌, ◌≤◌, ◌+◌, []
 ghost use Rattle.std.specs.List.{AllByRecursion};
 ghost use Rattle.mr_effect.specs.Spelling.{texts};
 ghost use Rattle.mr_entries.specs.Changes.{NeedsNoMemory};
-ghost use Rattle.mr_rows.specs.Growing.{offset_limit};
+ghost use Rattle.mr_repl.specs.Backlog.{offset_limit};
 ghost use Rattle.mr_rows.specs.State.{stopped_as};
 ghost use Rattle.mr_rows.specs.UpstreamRows.{ends_behind};
 ghost use Rattle.mr_state.specs.Parts.{Commits, Holds, Leads, Spends, marked_at, streams_on};

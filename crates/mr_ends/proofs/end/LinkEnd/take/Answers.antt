@@ -2,7 +2,7 @@ use Rattle.std.proofs.Common.{List, ℕ, drop, sym, subst, arith}
 use Rattle.std.proofs.lemmas.List.{length-drop}
 use Rattle.mr_ends.specs.Progresses.{Fits}
 use Rattle.mr_ends.proofs.Progressing.{fresh_along}
-use Rattle.mr_ends.proofs.end.End.take.Goals as goal
+use Rattle.mr_ends.proofs.end.LinkEnd.take.Goals as goal
 
 pub invariant_of-self : goal.invariant_of-self
 invariant_of-self c =
