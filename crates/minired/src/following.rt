@@ -95,7 +95,7 @@ impl FollowNotice {
         let lines = followed.greeted.saturating_add(followed.announced);
         self.lines = self.lines.saturating_add(lines);
         if let Some(address) = node.upstream() {
-            self.tell_way(rt, address, followed);
+            self.tell_way(rt, address, node, followed);
             let line = self.refused_line(followed, master);
             if let Some(trouble) = self.trouble(followed, master, line) {
                 let text = TroubleLine {
@@ -116,7 +116,7 @@ impl FollowNotice {
     }
 
     /// Tells of a whole copy that begins or is there, and that the stream goes on.
-    fn tell_way(&mut self, rt: &HostRuntime, of: &Address, followed: Followed) {
+    fn tell_way(&mut self, rt: &HostRuntime, of: &Address, node: &Node, followed: Followed) {
         if followed.announced > 0 {
             self.way = Way::Copying;
             self.began = Instant::now(rt).ok();
@@ -128,11 +128,12 @@ impl FollowNotice {
         if followed.copied > 0 {
             self.way = Way::Streaming;
             self.told = None;
-            let (bytes, took) = (followed.bytes, Seconds(self.since(rt)));
+            let (keys, bytes) = (node.key_count(), followed.bytes);
+            let took = Seconds(self.since(rt));
             tell(
                 rt,
                 &format_args!(
-                    "replica of {}, whole copy of {bytes} bytes in {took} s",
+                    "replica of {}, whole copy of {keys} keys, {bytes} bytes, in {took} s",
                     Shown(of)
                 ),
             );

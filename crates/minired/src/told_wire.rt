@@ -1,5 +1,6 @@
 //! The wire of a server, which tells where it has no descriptor left, knows of the link to the master, and hangs up on silent peers.
-ghost use Rattle.std.specs.Prelude.{◌≡◌, false};
+ghost use Rattle.std.specs.Prelude.{◌≡◌, [], false};
+ghost use Rattle.mr_wire.specs.Wire.{wire_of};
 
 use crate::master_link::MasterLink;
 use crate::notice::{Seldom, tell};
@@ -79,7 +80,7 @@ fn tell_hung_up(rt: &HostRuntime, replicas: u64, timeout: u64) {
 impl Wire for ToldWire {
     ghost tells = { false };
 
-    ghost links = { λ w. w.wire.links };
+    ghost links = { λ w. wire_of w.wire.links [] };
 
     ghost failures = { λ w. w.wire.failed.count };
 

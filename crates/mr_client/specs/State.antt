@@ -2,8 +2,7 @@
 use Rattle.std.specs.Prelude.{◌≡◌, ◌≢◌, ◌≤◌, ℕ, List, [], ◌++◌, length, take, drop, Bool, false, ◌||◌, Option, None, Some}
 use Rattle.std.proofs.Common.{Global, Vec}
 use Rattle.mr_links.specs.declared.link_id.LinkId.{LinkId}
-use Rattle.mr_links.specs.Links.{Links}
-use Rattle.mr_wire.specs.Wire.{LinkState, ChangesLink, behind_read, behind_write, count_of, is_over}
+use Rattle.mr_wire.specs.Wire.{ChangesLink, WireState, behind_read, behind_write, count_of, is_over, sent_by}
 use Rattle.mr_wire.specs.declared.wire.Moved.{Moved}
 use Rattle.mr_client.specs.Replies.{IsReply}
 
@@ -22,18 +21,18 @@ abbrev pub asked : List ℕ → ClientState → ClientState
 asked request a = record a { waiting = a.waiting ++ request }
 
 -- A write moved a beginning of what waited.
-pub record Sent (tells : Bool) (a b : ClientState) (s t : Links LinkState) : Type 0 where
+pub record Sent (tells : Bool) (a b : ClientState) (s t : WireState) : Type 0 where
   pub answer : Moved
   pub within : count_of answer ≤ length a.waiting
-  pub wire : ChangesLink s a.link (behind_write tells answer a.waiting) t
+  pub wire : ChangesLink s a.link (behind_write tells answer a.waiting) (sent_by tells answer a.waiting) t
   pub is : b ≡ record a { waiting = drop (count_of answer) a.waiting; ended = a.ended || is_over answer }
 
 -- A read put bytes behind what had come.
-pub record Heard (tells : Bool) (a b : ClientState) (s t : Links LinkState) : Type 0 where
+pub record Heard (tells : Bool) (a b : ClientState) (s t : WireState) : Type 0 where
   pub answer : Moved
   pub buffer : List ℕ
   pub within : count_of answer ≤ length buffer
-  pub wire : ChangesLink s a.link (behind_read tells answer buffer) t
+  pub wire : ChangesLink s a.link (behind_read tells answer buffer) [] t
   pub is : b ≡ record a { came = a.came ++ take (count_of answer) buffer; ended = a.ended || is_over answer }
 
 -- The reply that begins what came was taken off it.

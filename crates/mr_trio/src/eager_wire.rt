@@ -1,5 +1,6 @@
 //! The wire of a node that shares its thread with others.
-ghost use Rattle.std.specs.Prelude.{◌≡◌, false};
+ghost use Rattle.std.specs.Prelude.{◌≡◌, [], false};
+ghost use Rattle.mr_wire.specs.Wire.{wire_of};
 
 use mr_links::LinkId;
 use mr_wire::{Failed, Moved, SocketWire, Wire};
@@ -22,7 +23,7 @@ impl EagerWire {
 impl Wire for EagerWire {
     ghost tells = { false };
 
-    ghost links = { λ w. w.wire.links };
+    ghost links = { λ w. wire_of w.wire.links [] };
 
     ghost failures = { λ w. w.wire.failed.count };
 

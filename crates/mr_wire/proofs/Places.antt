@@ -9,7 +9,7 @@ use Rattle.mr_links.specs.LinkId.{id_cmp}
 use Rattle.mr_links.specs.Links.{Links}
 use Rattle.mr_links.specs.declared.link_id.LinkId.{LinkId}
 use Rattle.mr_links.proofs.LinkRows.{ids_total, exact_ids}
-use Rattle.mr_wire.specs.Wire.{LinkState, AcceptsNone}
+use Rattle.mr_wire.specs.Wire.{LinkState, AcceptsNone, wire_of}
 
 -- a link put in its own place
 pub put_same : (m : FinMap id_cmp LinkState) (l : LinkId) (e : LinkState) → get m l ≡ Some e → insert m l e ≡ m
@@ -37,10 +37,11 @@ one_more m n e = omega arith
 
 -- links of which one came and went
 pub came_and_went : (a n s b : Links LinkState) (l : LinkId) (e : LinkState) → get a.open_links l ≡ None → n.open_links ≡ insert a.open_links l e → n.opened ≡ a.opened + 1
-    → s ≡ n → b.open_links ≡ remove s.open_links l → b.opened ≡ s.opened → AcceptsNone a b
+    → s ≡ n → b.open_links ≡ remove s.open_links l → b.opened ≡ s.opened → AcceptsNone (wire_of a []) (wire_of b [])
 came_and_went a n s b l e absent came more same went kept = record {
   links = went ∙ (ap (λ (z : Links LinkState). remove z.open_links l) same ∙ (ap (λ z. remove z l) came ∙ put_and_removed a.open_links l e absent));
   opened = one_more a.opened b.opened (kept ∙ (ap (λ (z : Links LinkState). z.opened) same ∙ more));
+  sent = refl;
 }
 
 or_true : (b : Bool) → (b || true) ≡ true

@@ -7,6 +7,7 @@ mod mem_link;
 mod mem_wire;
 mod peer;
 mod ready_links;
+mod sent_log;
 mod socket_wire;
 mod wire;
 

@@ -1,7 +1,9 @@
-ghost use Rattle.std.specs.Prelude.{◌≡◌, ◌≤◌, ◌||◌, true, length, IfSome};
-ghost use Rattle.mr_wire.specs.Wire.{new_link, asked_link, behind_read, behind_write, count_of, is_over, moves_none, written};
+ghost use Rattle.std.specs.Prelude.{◌≡◌, ◌≤◌, ◌||◌, true, length, take, IfSome};
+ghost use Rattle.mr_wire.specs.Wire.{new_link, asked_link, behind_read, behind_write, count_of, is_over, moves_none, sent_on, written};
 
+use crate::sent_log::SentLog;
 use crate::wire::Moved;
+use mr_links::LinkId;
 use std::alloc::Global;
 use std::collections::VecDeque;
 use std::marker::Model;
@@ -157,34 +159,43 @@ impl MemLink {
         }
     }
 
-    /// Writes a beginning of the bytes.
-    pub(crate) fn write(&mut self, bytes: &[u8]) -> Moved
+    /// Writes a beginning of the bytes, and notes it under the link's name.
+    pub(crate) fn write(&mut self, name: LinkId, bytes: &[u8], sent: &mut SentLog) -> Moved
         ensures within { count_of result ≤ length bytes.now }
         ensures state { self.new ≡ behind_write true result bytes.now self.old }
+        ensures noted { sent.new ≡ sent_on name (take (count_of result) bytes.now) sent.old }
     {
-        let moved = self.next_write(bytes);
+        let moved = self.next_write(name, bytes, sent);
         self.stuck = moves_none(moved);
         moved
     }
 
     /// What the next write of the list comes to.
-    fn next_write(&mut self, bytes: &[u8]) -> Moved
+    fn next_write(&mut self, name: LinkId, bytes: &[u8], sent: &mut SentLog) -> Moved
         ensures within { count_of result ≤ length bytes.now }
         ensures state { self.new ≡ written result bytes.now self.old }
+        ensures noted { sent.new ≡ sent_on name (take (count_of result) bytes.now) sent.old }
     {
         match self.writes.pop_front() {
-            Some(Writing::AtMost(most)) => self.send(&bytes[..most.min(bytes.len())]),
+            Some(Writing::AtMost(most)) => {
+                self.send(name, &bytes[..most.min(bytes.len())], sent)
+            }
             Some(Writing::NotReady) | None => self.tell(Moved::NotReady),
             Some(Writing::Failed) => self.tell(Moved::Failed),
         }
     }
 
     /// Writes these bytes, all of them or none.
-    fn send(&mut self, bytes: &[u8]) -> Moved
+    fn send(&mut self, name: LinkId, bytes: &[u8], sent: &mut SentLog) -> Moved
         ensures within { count_of result ≤ length bytes.now }
         ensures state { self.new ≡ written result bytes.now self.old }
+        ensures noted { sent.new ≡ sent_on name (take (count_of result) bytes.now) sent.old }
     {
+        if !sent.note(name, bytes) {
+            return self.tell(Moved::Failed);
+        }
         if self.moved.extend_from_slice(bytes).is_err() {
+            sent.forget(name, bytes);
             return self.tell(Moved::Failed);
         }
         Moved::Bytes(bytes.len())

@@ -1,13 +1,14 @@
-ghost use Rattle.std.specs.Prelude.{◌≡◌, ◌≤◌, ◌↔◌, true, length, None, IfOk, IfSome, IsSome, IsNone, OnErr};
+ghost use Rattle.std.specs.Prelude.{◌≡◌, ◌≤◌, ◌↔◌, [], true, length, None, IfOk, IfSome, IsSome, IsNone, OnErr};
 ghost use Rattle.std.specs.FinMap as map;
 ghost use Rattle.mr_file.specs.LogFile.{Rose};
-ghost use Rattle.mr_wire.specs.Wire.{Opens, ChangesLink, behind_read, behind_write, count_of, first_from};
+ghost use Rattle.mr_wire.specs.Wire.{Opens, ChangesLink, behind_read, behind_write, count_of, first_from, sent_by, wire_of};
 
 use crate::failures::Failures;
 use crate::mem_link::{MemLink, Reading, Writing};
 use crate::peer::peer_named;
+use crate::sent_log::SentLog;
 use crate::wire::{Failed, Moved, Wire};
-use mr_links::{LinkId, Links};
+use mr_links::{LINKS_LIMIT, LinkId, Links};
 use std::alloc::Global;
 use std::collections::VecDeque;
 use std::net::SocketAddrV4;
@@ -39,9 +40,6 @@ pub enum Waiting {
     Failed,
 }
 
-/// No more links are opened in one run.
-const MOST_LINKS: u64 = 1 << 62;
-
 /// A wire in memory. Each wait, each accept and each connect takes the next of its list: at its end a wait succeeds, nothing is
 /// accepted, and a connect fails. Behind each wait all open links are named, in the order of their places. Where memory runs out it
 /// fails.
@@ -52,6 +50,8 @@ pub struct MemWire {
     accepts: VecDeque<Accepting>,
     connects: VecDeque<Connecting>,
     links: Links<MemLink>,
+    /// What was sent, on links that are closed too.
+    sent: SentLog,
     /// The first place whose link wasn't named since the last wait.
     unnamed: usize,
     failed: Failures,
@@ -69,6 +69,7 @@ impl MemWire {
     ) -> MemWire
         ensures links { result.links.open_links ≡ map.empty }
         ensures opened { result.links.opened ≡ 0 }
+        ensures sent { result.sent ≡ [] }
         ensures failed { result.failed.count ≡ 0 }
     {
         MemWire {
@@ -77,6 +78,7 @@ impl MemWire {
             accepts,
             connects,
             links: Links::new(alloc),
+            sent: SentLog::new(alloc),
             unnamed: 0,
             failed: Failures::new(),
             waited: 0,
@@ -111,13 +113,14 @@ impl MemWire {
 
     /// Opens a link.
     fn open(&mut self, end: MemLink) -> Result<LinkId, Failed>
-        ensures ok { IfOk result (λ link. Opens self.old.links link end self.new.links) }
+        ensures ok { IfOk result (λ link. Opens (wire_of self.old.links self.old.sent) link end (wire_of self.new.links self.new.sent)) }
         ensures err { OnErr result (self.new.links ≡ self.old.links) }
+        ensures sent { self.new.sent ≡ self.old.sent }
         ensures later { self.old.failed.count ≤ self.new.failed.count }
         ensures cause { OnErr result (Rose self.old.failed.count self.new.failed.count) }
         ensures waited { self.new.waited ≡ self.old.waited }
     {
-        if self.links.opened() >= MOST_LINKS {
+        if self.links.opened() >= LINKS_LIMIT {
             return Err(self.failed.failure());
         }
         match self.links.insert(end) {
@@ -141,8 +144,9 @@ impl MemWire {
     /// Reads bytes that came on a link into a room. Fails where the link isn't open.
     fn read_link(&mut self, link: LinkId, into: &mut [u8]) -> Moved
         ensures within { count_of result ≤ length into.new }
-        ensures read { ChangesLink self.old.links link (behind_read true result into.new) self.new.links }
+        ensures read { ChangesLink (wire_of self.old.links self.old.sent) link (behind_read true result into.new) [] (wire_of self.new.links self.new.sent) }
         ensures absent { map.get self.old.links.open_links link ≡ None → (result ≡ Moved.Failed) × (self.new.links ≡ self.old.links) }
+        ensures sent { self.new.sent ≡ self.old.sent }
         ensures failed { self.new.failed ≡ self.old.failed }
         ensures waited { self.new.waited ≡ self.old.waited }
     {
@@ -155,13 +159,13 @@ impl MemWire {
     /// Writes bytes to a link, or the first of them. Fails where the link isn't open.
     fn write_link(&mut self, link: LinkId, bytes: &[u8]) -> Moved
         ensures within { count_of result ≤ length bytes.now }
-        ensures written { ChangesLink self.old.links link (behind_write true result bytes.now) self.new.links }
-        ensures absent { map.get self.old.links.open_links link ≡ None → (result ≡ Moved.Failed) × (self.new.links ≡ self.old.links) }
+        ensures written { ChangesLink (wire_of self.old.links self.old.sent) link (behind_write true result bytes.now) (sent_by true result bytes.now) (wire_of self.new.links self.new.sent) }
+        ensures absent { map.get self.old.links.open_links link ≡ None → (result ≡ Moved.Failed) × (self.new.links ≡ self.old.links) × (self.new.sent ≡ self.old.sent) }
         ensures failed { self.new.failed ≡ self.old.failed }
         ensures waited { self.new.waited ≡ self.old.waited }
     {
         match self.links.get_mut(link) {
-            Some(end) => end.write(bytes),
+            Some(end) => end.write(link, bytes, &mut self.sent),
             None => Moved::Failed,
         }
     }
@@ -170,7 +174,7 @@ impl MemWire {
 impl Wire for MemWire {
     ghost tells = { true };
 
-    ghost links = { λ w. w.links };
+    ghost links = { λ w. wire_of w.links w.sent };
 
     ghost failures = { λ w. w.failed.count };
 
@@ -213,7 +217,7 @@ impl Wire for MemWire {
     fn ready(&mut self) -> Option<LinkId>
         ensures next { result ≡ first_from self.old.unnamed self.old.links }
         ensures there { IfSome result (λ link. IsSome (map.get self.new.links.open_links link)) }
-        ensures same { self.new.links ≡ self.old.links }
+        ensures same { wire_of self.new.links self.new.sent ≡ wire_of self.old.links self.old.sent }
         ensures failures { self.new.failed.count ≡ self.old.failed.count }
         ensures waited { self.new.waited ≡ self.old.waited }
     {

@@ -1,7 +1,7 @@
-ghost use Rattle.std.specs.Prelude.{◌≡◌, ◌≤◌, false, length, None, IfOk, IfSome, IsSome, OnErr};
+ghost use Rattle.std.specs.Prelude.{◌≡◌, ◌≤◌, [], false, length, None, IfOk, IfSome, IsSome, OnErr};
 ghost use Rattle.std.specs.FinMap as map;
 ghost use Rattle.mr_file.specs.LogFile.{Rose};
-ghost use Rattle.mr_wire.specs.Wire.{Opens, AcceptsNone, ChangesLink, behind_read, behind_write, count_of};
+ghost use Rattle.mr_wire.specs.Wire.{Opens, AcceptsNone, ChangesLink, behind_read, behind_write, count_of, wire_of};
 
 use crate::connection::Connection;
 use crate::failures::Failures;
@@ -11,7 +11,7 @@ use crate::wire::{Failed, Moved, Wire};
 use mio::event::Event;
 use mio::net::TcpListener;
 use mio::{Events, Interest, Poll, Token};
-use mr_links::{LinkId, Links};
+use mr_links::{LINKS_LIMIT, LinkId, Links};
 use std::alloc::Global;
 use std::io;
 use std::io::ErrorKind;
@@ -22,9 +22,6 @@ const LISTENER: Token = Token(usize::MAX);
 
 /// So many events are taken in one wait.
 const MOST_EVENTS: usize = 1024;
-
-/// No more links are opened in one run.
-const MOST_LINKS: u64 = 1 << 62;
 
 /// The system's numbers of the errors that say that it, or this process, has no descriptor left.
 const NONE_LEFT: [i32; 2] = [23, 24];
@@ -99,12 +96,12 @@ impl SocketWire {
 
     /// Opens a link over a socket, or drops the socket.
     fn open(&mut self, connection: Connection) -> Result<LinkId, Failed>
-        ensures ok { IfOk result (λ link. Opens self.old.links link connection self.new.links) }
-        ensures err { OnErr result (AcceptsNone self.old.links self.new.links) }
+        ensures ok { IfOk result (λ link. Opens (wire_of self.old.links []) link connection (wire_of self.new.links [])) }
+        ensures err { OnErr result (AcceptsNone (wire_of self.old.links []) (wire_of self.new.links [])) }
         ensures later { self.old.failed.count ≤ self.new.failed.count }
         ensures cause { OnErr result (Rose self.old.failed.count self.new.failed.count) }
     {
-        if self.links.opened() >= MOST_LINKS || !connection.send_at_once() {
+        if self.links.opened() >= LINKS_LIMIT || !connection.send_at_once() {
             return Err(self.failed.failure());
         }
         let Ok(link) = self.links.insert(connection) else {
@@ -142,7 +139,7 @@ impl SocketWire {
     /// Reads bytes that came on a link into a room. Fails where the link isn't open.
     fn read_link(&mut self, link: LinkId, into: &mut [u8]) -> Moved
         ensures within { count_of result ≤ length into.new }
-        ensures read { ChangesLink self.old.links link (behind_read false result into.new) self.new.links }
+        ensures read { ChangesLink (wire_of self.old.links []) link (behind_read false result into.new) [] (wire_of self.new.links []) }
         ensures absent { map.get self.old.links.open_links link ≡ None → (result ≡ Moved.Failed) × (self.new.links ≡ self.old.links) }
         ensures failed { self.new.failed ≡ self.old.failed }
     {
@@ -155,7 +152,7 @@ impl SocketWire {
     /// Writes bytes to a link, or the first of them. Fails where the link isn't open.
     fn write_link(&mut self, link: LinkId, bytes: &[u8]) -> Moved
         ensures within { count_of result ≤ length bytes.now }
-        ensures written { ChangesLink self.old.links link (behind_write false result bytes.now) self.new.links }
+        ensures written { ChangesLink (wire_of self.old.links []) link (behind_write false result bytes.now) [] (wire_of self.new.links []) }
         ensures absent { map.get self.old.links.open_links link ≡ None → (result ≡ Moved.Failed) × (self.new.links ≡ self.old.links) }
         ensures failed { self.new.failed ≡ self.old.failed }
     {
@@ -244,7 +241,7 @@ fn next_open(ready: &mut ReadyLinks, links: &Links<Connection>) -> Option<LinkId
 impl Wire for SocketWire {
     ghost tells = { false };
 
-    ghost links = { λ w. w.links };
+    ghost links = { λ w. wire_of w.links [] };
 
     ghost failures = { λ w. w.failed.count };
 

@@ -1,8 +1,7 @@
-ghost use Rattle.std.specs.Prelude.{◌≡◌, ◌≤◌, Bool, true, ℕ, None, length, IfOk, IfSome, IfNone, IsSome, OnErr};
+ghost use Rattle.std.specs.Prelude.{◌≡◌, ◌≤◌, [], Bool, true, ℕ, None, length, IfOk, IfSome, IfNone, IsSome, OnErr};
 ghost use Rattle.std.specs.FinMap as map;
-ghost use Rattle.mr_links.specs.Links.{Links};
 ghost use Rattle.mr_file.specs.LogFile.{Rose};
-ghost use Rattle.mr_wire.specs.Wire.{LinkState, Accepts, AcceptsNone, Connects, ChangesLink, behind_read, behind_write, count_of};
+ghost use Rattle.mr_wire.specs.Wire.{WireState, Accepts, AcceptsNone, Connects, ChangesLink, behind_read, behind_write, count_of, sent_by};
 
 use mr_links::LinkId;
 use thiserror::Error;
@@ -26,15 +25,14 @@ pub enum Moved {
 }
 
 /// A wire has links, each under a name that is never given twice. One in memory tells the bytes that its reads gave and its
-/// writes moved, whether the last write of a link moved none, and how long it was asked to wait; of one of the system they count as
-/// none. A failure is answered only where the count of failures rose, or
-/// stands at its greatest.
+/// writes moved, those of closed links too, whether the last write of a link moved none, and how long it was asked to wait; of one of
+/// the system they count as none. A failure is answered only where the count of failures rose, or stands at its greatest.
 pub trait Wire {
     /// Whether it tells the bytes.
     ghost tells: { Bool };
 
-    /// The open links, and how many there ever were.
-    ghost links: { Self → Links LinkState };
+    /// The open links, how many there ever were, and all that was sent, on links that are closed too.
+    ghost links: { Self → WireState };
 
     ghost failures: { Self → ℕ };
 
@@ -80,7 +78,7 @@ pub trait Wire {
     /// Reads the next bytes of a link into the front of a buffer.
     fn read(&mut self, link: LinkId, into: &mut [u8]) -> Moved
         ensures within { count_of result ≤ length into.new }
-        ensures read { ChangesLink (links self.old) link (behind_read tells result into.new) (links self.new) }
+        ensures read { ChangesLink (links self.old) link (behind_read tells result into.new) [] (links self.new) }
         ensures absent { map.get (links self.old).open_links link ≡ None → (result ≡ Moved.Failed) × (links self.new ≡ links self.old) }
         ensures waited { waited self.new ≡ waited self.old }
         ensures later { failures self.old ≤ failures self.new }
@@ -89,7 +87,7 @@ pub trait Wire {
     /// Writes a beginning of the bytes on a link.
     fn write(&mut self, link: LinkId, bytes: &[u8]) -> Moved
         ensures within { count_of result ≤ length bytes.now }
-        ensures written { ChangesLink (links self.old) link (behind_write tells result bytes.now) (links self.new) }
+        ensures written { ChangesLink (links self.old) link (behind_write tells result bytes.now) (sent_by tells result bytes.now) (links self.new) }
         ensures absent { map.get (links self.old).open_links link ≡ None → (result ≡ Moved.Failed) × (links self.new ≡ links self.old) }
         ensures waited { waited self.new ≡ waited self.old }
         ensures later { failures self.old ≤ failures self.new }
@@ -99,6 +97,7 @@ pub trait Wire {
     fn close(&mut self, link: LinkId)
         ensures closed { (links self.new).open_links ≡ map.remove (links self.old).open_links link }
         ensures opened { (links self.new).opened ≡ (links self.old).opened }
+        ensures sent { (links self.new).sent ≡ (links self.old).sent }
         ensures waited { waited self.new ≡ waited self.old }
         ensures failures { failures self.new ≡ failures self.old };
 }
