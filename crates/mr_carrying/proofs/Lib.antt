@@ -1,5 +1,6 @@
 pub mod Places
 mod Undone
+mod Lacking
 mod Behind
 mod Answered
 pub mod Room

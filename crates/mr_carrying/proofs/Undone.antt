@@ -6,7 +6,7 @@ use Rattle.std.proofs.lemmas.Option.{slice_get-map}
 use Rattle.mr_links.specs.declared.link_id.LinkId.{LinkId}
 use Rattle.mr_ends.specs.Replicas.{is_named}
 use Rattle.mr_outs.specs.Outs.{OutsState}
-use Rattle.mr_seen.specs.State.{Entry, Link}
+use Rattle.mr_seen.specs.State.{BookEntry, Link}
 use Rattle.mr_seen.specs.Books.{extended}
 use Rattle.mr_seen.specs.Carrying.{fed_if, is_at, reached, said_by, said_on, shut_if, told}
 use Rattle.mr_seen.proofs.Places.{set_here, set_same}
@@ -44,12 +44,12 @@ module _ {A : Type 0} (f g : A → A) (back : (x : A) → g (f x) ≡ x) where
   undone_all (x ∷ xs) = ap (λ z. z ∷ map g (map f xs)) (back x) ∙ ap (λ z. x ∷ z) (undone_all xs)
 
 -- the first history of an id is the one that grows
-pub extended_here : (es : List Entry) (i : ℕ) (e : Entry) (id bytes : List ℕ) → slice_get es i ≡ Some e → bytes_eq e.id id ≡ true
+pub extended_here : (es : List BookEntry) (i : ℕ) (e : BookEntry) (id bytes : List ℕ) → slice_get es i ≡ Some e → bytes_eq e.id id ≡ true
     → slice_set es i (record e { texts = e.texts ++ bytes }) ≡ take i es ++ extended (drop i es) id bytes
 extended_here [] i e id bytes q t = absurd (cc)
 extended_here (x ∷ es) zero e id bytes q t =
     let same : x ≡ e = cc in
-    sym (ap (λ (z : Entry). cond (bytes_eq z.id id) (record z { texts = z.texts ++ bytes } ∷ es) (z ∷ extended es id bytes)) same
+    sym (ap (λ (z : BookEntry). cond (bytes_eq z.id id) (record z { texts = z.texts ++ bytes } ∷ es) (z ∷ extended es id bytes)) same
     ∙ ap (λ c. cond c (record e { texts = e.texts ++ bytes } ∷ es) (e ∷ extended es id bytes)) t)
 extended_here (x ∷ es) (suc i) e id bytes q t = ap (λ z. x ∷ z) (extended_here es i e id bytes q t)
 

@@ -9,6 +9,7 @@ use Rattle.mr_rows.specs.State.{NodeState, end_of, stopped_as}
 use Rattle.mr_seen.specs.State.{Link, Slot, WorldState}
 use Rattle.mr_seen.specs.Carrying.{booked_as, filed, put_node, reached, settled, told}
 use Rattle.mr_seen.specs.Events.{IsServed}
+use Rattle.mr_carrying.specs.Memory.{TakesMemory}
 
 -- The node n serves the link l, which it knows by this name; it runs, and its end is open.
 pub record IsServing (w : WorldState) (l n : ℕ) (name : LinkId) : Type 0 where
@@ -44,7 +45,7 @@ carried_as w n s l k id offset outs = record {
   book = booked_as outs.used w.book id offset outs.grown;
 }
 
--- It is carried, or the node stops.
+-- It is carried; or the node stops, where to carry it takes memory.
 abbrev pub Carries : WorldState → ℕ → ℕ → List ℕ → ℕ → OutsState → WorldState → Type 0
 Carries w n l id offset outs v = (s : Slot) (k : Link) → slice_get w.slots n ≡ Some s → slice_get w.links l ≡ Some k
-    → (v ≡ carried_as w n s l k id offset outs) ⊎ (v ≡ put_node w n s (stopped_as s.node))
+    → (v ≡ carried_as w n s l k id offset outs) ⊎ (TakesMemory outs × (v ≡ put_node w n s (stopped_as s.node)))

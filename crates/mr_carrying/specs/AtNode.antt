@@ -10,12 +10,12 @@ use Rattle.mr_rows.specs.LinkRows.{Dials}
 use Rattle.mr_node.specs.Calls.{OpensNoMore}
 use Rattle.mr_node.specs.declared.fault.NodeFault.{NodeFault}
 use Rattle.mr_node.specs.declared.fault.NodeFault.TheVariants as fault
-use Rattle.mr_seen.specs.State.{Slot, Entry}
+use Rattle.mr_seen.specs.State.{Slot, BookEntry}
 use Rattle.mr_seen.specs.Books.{entry_of}
 use Rattle.mr_seen.specs.Carrying.{begun_slot}
 
 -- It was drawn before, or is that of zeros.
-abbrev pub is_spent : List Entry → List ℕ → Bool
+abbrev pub is_spent : List BookEntry → List ℕ → Bool
 is_spent es id = bytes_eq id zero_id || is_some (entry_of es id)
 
 -- A node in this role begins with what the longest beginning of these bytes makes that makes a dataset by groups, and that is its file.

@@ -5,7 +5,7 @@ use Rattle.mr_links.specs.LinkId.{coded_id}
 use Rattle.mr_links.specs.declared.link_id.LinkId.{LinkId}
 use Rattle.mr_rows.specs.State.{NodeState, node_code}
 use Rattle.mr_seen.specs.Way.{WayState}
-use Rattle.mr_seen.specs.State.{Caller, a_client, a_node, Link, Slot, Entry, WorldState}
+use Rattle.mr_seen.specs.State.{Caller, a_client, a_node, Link, Slot, BookEntry, WorldState}
 
 abbrev pub way_code : Coded WayState
 way_code = code_by (List ℕ × (ℕ × ℕ)) (coded× (coded_list coded_ℕ) (coded× coded_ℕ coded_ℕ)) (λ w. (w.sent, (w.taken, w.used))) (λ p. record { sent = p.0; taken = p.1.0; used = p.1.1 }) (λ _. refl)
@@ -35,10 +35,10 @@ link_code = code_by (Caller × (ℕ × (LinkId × (Bool × (Bool × (WayState ×
     (λ k. (k.caller, (k.to, (k.name, (k.serving, (k.streams, (k.ask, k.tell)))))))
     (λ p. record { caller = p.0; to = p.1.0; name = p.1.1.0; serving = p.1.1.1.0; streams = p.1.1.1.1.0; ask = p.1.1.1.1.1.0; tell = p.1.1.1.1.1.1 }) (λ _. refl)
 
-abbrev pub entry_code : Coded Entry
+abbrev pub entry_code : Coded BookEntry
 entry_code = code_by (List ℕ × (List ℕ × List ℕ)) (coded× (coded_list coded_ℕ) (coded× (coded_list coded_ℕ) (coded_list coded_ℕ))) (λ e. (e.id, (e.start, e.texts)))
     (λ p. record { id = p.0; start = p.1.0; texts = p.1.1 }) (λ _. refl)
 
 abbrev pub world_code : Coded WorldState
-world_code = code_by (List Slot × (List Link × List Entry)) (coded× (coded_list slot_code) (coded× (coded_list link_code) (coded_list entry_code))) (λ w. (w.slots, (w.links, w.book)))
+world_code = code_by (List Slot × (List Link × List BookEntry)) (coded× (coded_list slot_code) (coded× (coded_list link_code) (coded_list entry_code))) (λ w. (w.slots, (w.links, w.book)))
     (λ p. record { slots = p.0; links = p.1.0; book = p.1.1 }) (λ _. refl)

@@ -3,4 +3,5 @@ pub mod AtLink
 pub mod AtNode
 pub mod Lending
 pub mod Undoing
+pub mod Memory
 pub mod Answering

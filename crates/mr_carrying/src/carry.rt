@@ -1,13 +1,14 @@
 // What a call on a node gives out goes to the file, to the links and to the book: all of it, or nothing.
-ghost use Rattle.std.specs.Prelude.{◌≡◌, ◌≤◌, ◌<◌, ◌++◌, Some, length, map, take, drop, slice_get, IfOk, OnOk, OnErr};
+ghost use Rattle.std.specs.Prelude.{◌≡◌, ◌≢◌, ◌≤◌, ◌<◌, ◌++◌, [], Some, length, map, take, drop, slice_get, IfOk, OnOk, OnErr};
 ghost use Rattle.std.specs.Option.{option_map};
 ghost use Rattle.mr_rows.specs.State.{end_of};
 ghost use Rattle.mr_seen.specs.State.{Link as LinkState};
 ghost use Rattle.mr_seen.specs.Carrying.{booked_as, filed, reached, said_on, settled};
 ghost use Rattle.mr_carrying.specs.Answering.{IsBehind, answered_links};
+ghost use Rattle.mr_carrying.specs.Memory.{TakesMemory};
 ghost use Rattle.mr_carrying.specs.Undoing.{fed_by, unfed_by, shut_by, unsaid_on};
 
-use crate::entry::{Entry, branch, lengthen};
+use crate::entry::{BookEntry, branch, lengthen};
 use crate::link::Link;
 use crate::slot::Slot;
 use mr_outs::Outs;
@@ -18,6 +19,7 @@ use std::alloc::{AllocError, Global};
 fn feed_front(links: &mut [Link], n: usize, outs: &Outs) -> usize
     ensures within { result ≤ length links.old }
     ensures fed { links.new ≡ map (fed_by n outs.now) (take result links.old) ++ drop result links.old }
+    ensures some { result < length links.new → outs.now.grown ≢ [] }
 {
     let mut count = 0;
     for k in links.iter_mut() {
@@ -48,6 +50,7 @@ fn unfeed_front(links: &mut [Link], count: usize, n: usize, outs: &Outs)
 fn feed_all(links: &mut [Link], n: usize, outs: &Outs) -> Result<(), AllocError>
     ensures ok { OnOk result (links.new ≡ map (fed_by n outs.now) links.old) }
     ensures err { OnErr result (links.new ≡ links.old) }
+    ensures some { OnErr result (outs.now.grown ≢ []) }
 {
     let count = feed_front(links, n, outs);
     if count < links.len() {
@@ -70,6 +73,7 @@ fn shut_all(links: &mut [Link], n: usize, outs: &Outs)
 fn feed_in(links: &mut Vec<Link>, n: usize, outs: &Outs) -> Result<(), AllocError>
     ensures ok { OnOk result (links.new.items ≡ map (fed_by n outs.now) links.old.items) }
     ensures err { OnErr result (links.new.items ≡ links.old.items) }
+    ensures some { OnErr result (outs.now.grown ≢ []) }
 {
     feed_all(links.as_mut_slice(), n, outs)
 }
@@ -92,13 +96,14 @@ fn shut_in(links: &mut Vec<Link>, n: usize, outs: &Outs)
 /// What a call did to the book.
 fn write_book(
     alloc: Global,
-    book: &mut Vec<Entry>,
+    book: &mut Vec<BookEntry>,
     id: ReplId,
     offset: u64,
     outs: &Outs,
 ) -> Result<(), AllocError>
     ensures ok { OnOk result (book.new.items ≡ booked_as outs.now.used book.old.items id offset outs.now.grown) }
     ensures err { OnErr result (book.new.items ≡ book.old.items) }
+    ensures memory { OnErr result (TakesMemory outs.now) }
 {
     match outs.used() {
         Some(fresh) => branch(alloc, book, id, offset, fresh),
@@ -108,11 +113,13 @@ fn write_book(
 
 /// A copy of what the file is replaced by, where it is.
 pub(crate) fn copied(alloc: Global, outs: &Outs) -> Result<Option<Vec<u8>>, AllocError>
-    ensures { IfOk result (λ copy. option_map (λ b. b.items) copy ≡ outs.now.replaced) }
+    ensures ok { IfOk result (λ copy. option_map (λ b. b.items) copy ≡ outs.now.replaced) }
+    ensures memory { OnErr result (TakesMemory outs.now) }
 {
     match outs.replaced() {
         Some(bytes) => {
-            let copy = Vec::from_slice(alloc, bytes)?;
+            let mut copy = Vec::new(alloc);
+            copy.extend_from_slice(bytes)?;
             Ok(Some(copy))
         }
         None => Ok(None),
@@ -124,7 +131,7 @@ fn give(
     alloc: Global,
     slot: &mut Slot,
     links: &mut Vec<Link>,
-    book: &mut Vec<Entry>,
+    book: &mut Vec<BookEntry>,
     n: usize,
     id: ReplId,
     offset: u64,
@@ -136,6 +143,7 @@ fn give(
     ensures no_file { OnErr result (slot.new ≡ slot.old) }
     ensures no_links { OnErr result (links.new.items ≡ links.old.items) }
     ensures no_book { OnErr result (book.new.items ≡ book.old.items) }
+    ensures memory { OnErr result (TakesMemory outs.now) }
 {
     let Ok(replaced) = copied(alloc, outs) else {
         return Err(AllocError);
@@ -161,6 +169,7 @@ fn give(
 fn say(links: &mut [Link], l: usize, outs: &Outs) -> Result<(), AllocError>
     ensures ok { OnOk result (links.new ≡ said_on outs.now.link l outs.now.reply links.old) }
     ensures err { OnErr result (links.new ≡ links.old) }
+    ensures some { OnErr result (outs.now.reply ≢ []) }
 {
     if outs.link().is_none() {
         return Ok(());
@@ -188,6 +197,7 @@ fn unsay(links: &mut [Link], l: usize, outs: &Outs)
 fn say_in(links: &mut Vec<Link>, l: usize, outs: &Outs) -> Result<(), AllocError>
     ensures ok { OnOk result (links.new.items ≡ said_on outs.now.link l outs.now.reply links.old.items) }
     ensures err { OnErr result (links.new.items ≡ links.old.items) }
+    ensures some { OnErr result (outs.now.reply ≢ []) }
 {
     say(links.as_mut_slice(), l, outs)
 }
@@ -204,7 +214,7 @@ pub fn give_tick(
     alloc: Global,
     slot: &mut Slot,
     links: &mut Vec<Link>,
-    book: &mut Vec<Entry>,
+    book: &mut Vec<BookEntry>,
     n: usize,
     id: ReplId,
     offset: u64,
@@ -216,6 +226,7 @@ pub fn give_tick(
     ensures no_file { OnErr result (slot.new ≡ slot.old) }
     ensures no_links { OnErr result (links.new.items ≡ links.old.items) }
     ensures no_book { OnErr result (book.new.items ≡ book.old.items) }
+    ensures memory { OnErr result (TakesMemory outs.now) }
 {
     let l = slot.dialled();
     if say_in(links, l, outs).is_err() {
@@ -249,7 +260,7 @@ pub fn give_step(
     alloc: Global,
     slot: &mut Slot,
     links: &mut Vec<Link>,
-    book: &mut Vec<Entry>,
+    book: &mut Vec<BookEntry>,
     n: usize,
     l: usize,
     id: ReplId,
@@ -264,6 +275,7 @@ pub fn give_step(
     ensures no_file { OnErr result (slot.new ≡ slot.old) }
     ensures no_links { OnErr result (links.new.items ≡ links.old.items) }
     ensures no_book { OnErr result (book.new.items ≡ book.old.items) }
+    ensures memory { OnErr result (TakesMemory outs.now) }
 {
     if links[l].tell(outs.reply()).is_err() {
         return Err(AllocError);

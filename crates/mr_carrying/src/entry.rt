@@ -1,5 +1,5 @@
 // What is known of an id.
-ghost use Rattle.std.specs.Prelude.{◌≡◌, [], ◌||◌, ◌++◌, bytes_eq, is_some, take, option_copied, IfOk, OnOk, OnErr};
+ghost use Rattle.std.specs.Prelude.{◌≡◌, ◌≢◌, [], ◌||◌, ◌++◌, bytes_eq, is_some, take, option_copied, IfOk, OnOk, OnErr};
 ghost use Rattle.mr_repl.specs.ReplId.{zero_id};
 ghost use Rattle.mr_seen.specs.Books.{branched, entry_of, extended};
 ghost use Rattle.mr_carrying.specs.AtNode.{is_spent};
@@ -10,29 +10,29 @@ use std::marker::Model;
 
 /// The history of an id: the commands that make the dataset that it began with, and the texts of the groups since.
 #[derive(Drop)]
-pub struct Entry {
+pub struct BookEntry {
     id: ReplId,
     start: Vec<u8>,
     texts: Vec<u8>,
 }
 
-impl Model for Entry {
-    ghost use Rattle.mr_seen.specs.State.{Entry as EntryState};
+impl Model for BookEntry {
+    ghost use Rattle.mr_seen.specs.State.{BookEntry as BookEntryState};
     ghost use Rattle.mr_carrying.specs.Codes.{entry_code};
 
-    ghost Value = { EntryState };
+    ghost Value = { BookEntryState };
 
     ghost coded = { entry_code };
 
     ghost view = { λ e. record { id = e.id; start = e.start.items; texts = e.texts.items } };
 }
 
-impl Entry {
+impl BookEntry {
     /// An id that begins with the empty dataset.
-    pub fn begun(alloc: Global, id: ReplId) -> Entry
+    pub fn begun(alloc: Global, id: ReplId) -> BookEntry
         ensures { result ≡ record { id = id; start = []; texts = [] } }
     {
-        Entry {
+        BookEntry {
             id,
             start: Vec::new(alloc),
             texts: Vec::new(alloc),
@@ -40,11 +40,11 @@ impl Entry {
     }
 
     /// An id that begins with the dataset that these commands make.
-    pub fn begun_with(alloc: Global, id: ReplId, start: &[u8]) -> Result<Entry, AllocError>
+    pub fn begun_with(alloc: Global, id: ReplId, start: &[u8]) -> Result<BookEntry, AllocError>
         ensures { IfOk result (λ e. e ≡ record { id = id; start = start.now; texts = [] }) }
     {
         let start = Vec::from_slice(alloc, start)?;
-        Ok(Entry {
+        Ok(BookEntry {
             id,
             start,
             texts: Vec::new(alloc),
@@ -62,18 +62,19 @@ impl Entry {
     fn lengthen(&mut self, bytes: &[u8]) -> Result<(), AllocError>
         ensures ok { OnOk result (self.new ≡ record self.old { texts = self.old.texts ++ bytes.now }) }
         ensures err { OnErr result (self.new ≡ self.old) }
+        ensures some { OnErr result (bytes.now ≢ []) }
     {
         self.texts.extend_from_slice(bytes)?;
         Ok(())
     }
 
     /// The history of a new id, which is this one up to an offset.
-    fn cut(&self, alloc: Global, fresh: ReplId, offset: u64) -> Result<Entry, AllocError>
+    fn cut(&self, alloc: Global, fresh: ReplId, offset: u64) -> Result<BookEntry, AllocError>
         ensures { IfOk result (λ e. e ≡ record { id = fresh; start = self.now.start; texts = take offset self.now.texts }) }
     {
         let start = Vec::from_slice(alloc, self.start.as_slice())?;
         let texts = Vec::from_slice(alloc, front_of(self.texts.as_slice(), offset))?;
-        Ok(Entry {
+        Ok(BookEntry {
             id: fresh,
             start,
             texts,
@@ -94,7 +95,7 @@ pub(crate) fn front_of(bytes: &[u8], count: u64) -> &[u8]
 }
 
 /// The history of an id.
-fn find(book: &[Entry], id: ReplId) -> Option<&Entry>
+fn find(book: &[BookEntry], id: ReplId) -> Option<&BookEntry>
     ensures { option_copied result ≡ entry_of book.now id }
 {
     for entry in book.iter() {
@@ -106,9 +107,10 @@ fn find(book: &[Entry], id: ReplId) -> Option<&Entry>
 }
 
 /// Puts texts behind the history of an id.
-pub(crate) fn lengthen(book: &mut [Entry], id: ReplId, bytes: &[u8]) -> Result<(), AllocError>
+pub(crate) fn lengthen(book: &mut [BookEntry], id: ReplId, bytes: &[u8]) -> Result<(), AllocError>
     ensures ok { OnOk result (book.new ≡ extended book.old id bytes.now) }
     ensures err { OnErr result (book.new ≡ book.old) }
+    ensures some { OnErr result (bytes.now ≢ []) }
 {
     for entry in book.iter_mut() {
         if entry.is_of(id) {
@@ -121,7 +123,7 @@ pub(crate) fn lengthen(book: &mut [Entry], id: ReplId, bytes: &[u8]) -> Result<(
 /// A new id, whose history is that of another up to an offset.
 pub(crate) fn branch(
     alloc: Global,
-    book: &mut Vec<Entry>,
+    book: &mut Vec<BookEntry>,
     id: ReplId,
     offset: u64,
     fresh: ReplId,
@@ -142,7 +144,7 @@ pub(crate) fn branch(
 }
 
 /// Whether the id can't be drawn: it was drawn before, or is that of zeros.
-pub fn is_spent(book: &[Entry], id: ReplId) -> bool
+pub fn is_spent(book: &[BookEntry], id: ReplId) -> bool
     ensures { result ≡ is_spent book.now id }
 {
     is_zero(id) || is_drawn(book, id)
@@ -156,7 +158,7 @@ fn is_zero(id: ReplId) -> bool
 }
 
 /// Whether the id stands in the book.
-fn is_drawn(book: &[Entry], id: ReplId) -> bool
+fn is_drawn(book: &[BookEntry], id: ReplId) -> bool
     ensures { result ≡ is_some (entry_of book.now id) }
 {
     for entry in book.iter() {

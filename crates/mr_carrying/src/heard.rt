@@ -2,6 +2,7 @@
 ghost use Rattle.std.specs.Prelude.{◌≡◌, OnOk, OnErr};
 ghost use Rattle.mr_seen.specs.Carrying.{filed};
 ghost use Rattle.mr_carrying.specs.AtLink.{heard_by};
+ghost use Rattle.mr_carrying.specs.Memory.{TakesMemory};
 
 use crate::carry::copied;
 use crate::link::Link;
@@ -22,6 +23,7 @@ pub fn give_heard(
     ensures link { OnOk result (link.new ≡ heard_by left outs.now.reply link.old) }
     ensures no_file { OnErr result (slot.new ≡ slot.old) }
     ensures no_link { OnErr result (link.new ≡ link.old) }
+    ensures memory { OnErr result (TakesMemory outs.now) }
 {
     let Ok(replaced) = copied(alloc, outs) else {
         return Err(AllocError);

@@ -10,7 +10,7 @@ mod slot;
 mod way;
 
 pub use carry::{give_step, give_tick};
-pub use entry::{Entry, is_spent};
+pub use entry::{BookEntry, is_spent};
 pub use heard::give_heard;
 pub use link::Link;
 pub use side::Side;

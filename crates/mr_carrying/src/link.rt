@@ -1,5 +1,5 @@
 // A link to a node.
-ghost use Rattle.std.specs.Prelude.{◌≡◌, ◌+◌, ◌≤◌, ◌↔◌, ◌==◌, ◌&&◌, true, false, length, take, drop, IfNone, IfSome, IsTrue, OnOk, OnErr, ℕ};
+ghost use Rattle.std.specs.Prelude.{◌≡◌, ◌≢◌, ◌+◌, ◌≤◌, ◌↔◌, ◌==◌, ◌&&◌, [], true, false, length, take, drop, IfNone, IfSome, IsTrue, OnOk, OnErr, ℕ};
 ghost use Rattle.mr_ends.specs.Replicas.{is_named};
 ghost use Rattle.mr_seen.specs.State.{a_client, a_node};
 ghost use Rattle.mr_seen.specs.Way.{left_on, no_way, sent_on, taken_on};
@@ -108,6 +108,7 @@ impl Link {
     pub fn ask(&mut self, bytes: &[u8]) -> Result<(), AllocError>
         ensures ok { OnOk result (self.new ≡ record self.old { ask = sent_on bytes.now self.old.ask }) }
         ensures err { OnErr result (self.new ≡ self.old) }
+        ensures some { OnErr result (bytes.now ≢ []) }
     {
         self.ask.send(bytes)?;
         Ok(())
@@ -223,6 +224,7 @@ impl Link {
     pub(crate) fn tell(&mut self, bytes: &[u8]) -> Result<(), AllocError>
         ensures ok { OnOk result (self.new ≡ told bytes.now self.old) }
         ensures err { OnErr result (self.new ≡ self.old) }
+        ensures some { OnErr result (bytes.now ≢ []) }
     {
         self.tell.send(bytes)?;
         Ok(())
@@ -246,6 +248,7 @@ impl Link {
     pub(crate) fn hear(&mut self, reply: &[u8], left: Option<usize>) -> Result<(), AllocError>
         ensures ok { OnOk result (self.new ≡ heard_by left reply.now self.old) }
         ensures err { OnErr result (self.new ≡ self.old) }
+        ensures some { OnErr result (reply.now ≢ []) }
     {
         match left {
             Some(left) => {
@@ -261,6 +264,7 @@ impl Link {
     pub(crate) fn feed_if(&mut self, n: usize, outs: &Outs) -> Result<(), AllocError>
         ensures ok { OnOk result (self.new ≡ fed_if (is_at n self.old && is_named outs.now.fed self.old.name) outs.now.grown self.old) }
         ensures err { OnErr result (self.new ≡ self.old) }
+        ensures some { OnErr result (outs.now.grown ≢ []) }
     {
         if self.is_at(n) && is_named(outs.fed(), self.name) {
             return self.tell(outs.grown());

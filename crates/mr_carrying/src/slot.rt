@@ -1,5 +1,5 @@
 // A node among others.
-ghost use Rattle.std.specs.Prelude.{◌≡◌, ◌↔◌, ◌+◌, ◌-◌, ◌++◌, [], None, false, length, not, take, IfOk, IsTrue, OnOk, OnErr};
+ghost use Rattle.std.specs.Prelude.{◌≡◌, ◌≢◌, ◌↔◌, ◌+◌, ◌-◌, ◌++◌, [], None, false, length, not, take, IfOk, IsTrue, OnOk, OnErr};
 ghost use Rattle.std.specs.Option.{option_map};
 ghost use Rattle.std.specs.FinMap.{empty};
 ghost use Rattle.mr_node.specs.Calls.{FeedRow, FitsMore, IsClients, IsUnread, OpenRow, TickStep};
@@ -264,6 +264,7 @@ impl Slot {
     pub(crate) fn append(&mut self, bytes: &[u8]) -> Result<(), AllocError>
         ensures ok { OnOk result (self.new ≡ record self.old { file = self.old.file ++ bytes.now }) }
         ensures err { OnErr result (self.new ≡ self.old) }
+        ensures some { OnErr result (bytes.now ≢ []) }
     {
         self.file.extend_from_slice(bytes)?;
         Ok(())

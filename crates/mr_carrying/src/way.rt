@@ -1,5 +1,5 @@
 // One direction of a link.
-ghost use Rattle.std.specs.Prelude.{◌≡◌, ◌+◌, ◌≤◌, ◌↔◌, length, take, drop, IfOk, IsTrue, OnOk, OnErr};
+ghost use Rattle.std.specs.Prelude.{◌≡◌, ◌≢◌, ◌+◌, ◌≤◌, ◌↔◌, [], length, take, drop, IfOk, IsTrue, OnOk, OnErr};
 ghost use Rattle.mr_seen.specs.Way.{left_on, no_way, sent_on, taken_on};
 ghost use Rattle.mr_carrying.specs.Lending.{taken_in};
 ghost use Rattle.mr_carrying.specs.Undoing.{unsent};
@@ -49,6 +49,7 @@ impl Way {
     pub(crate) fn send(&mut self, bytes: &[u8]) -> Result<(), AllocError>
         ensures ok { OnOk result (self.new ≡ sent_on bytes.now self.old) }
         ensures err { OnErr result (self.new ≡ self.old) }
+        ensures some { OnErr result (bytes.now ≢ []) }
     {
         self.sent.extend_from_slice(bytes)?;
         Ok(())

@@ -12,7 +12,7 @@ use Rattle.mr_history.proofs.Fronts.{some_is}
 use Rattle.mr_history.proofs.Histories.{all_front}
 use Rattle.mr_language.specs.Minired.{minired}
 use Rattle.mr_language.proofs.Texts.{made_by_groups_is_one}
-use Rattle.mr_seen.specs.State.{Entry, WorldState}
+use Rattle.mr_seen.specs.State.{BookEntry, WorldState}
 use Rattle.mr_seen.specs.Books.{IsKept, entry_of, IsKeptAs, IsBook}
 use Rattle.mr_seen.specs.Events.{Holds}
 use Rattle.mr_seen.proofs.Singles.{fold_is}
@@ -20,15 +20,15 @@ use Rattle.mr_headline.specs.Showing.{Gives, HistoriesGoOn}
 use Rattle.mr_headline.specs.Headline.{HistoriesGiveOne}
 
 -- an id with a history has an entry that it's kept by
-pub record HasEntry (entries : List Entry) (id : List ℕ) (h : History minired) : Type 0 where
-  pub entry : Entry
+pub record HasEntry (entries : List BookEntry) (id : List ℕ) (h : History minired) : Type 0 where
+  pub entry : BookEntry
   pub found : entry_of entries id ≡ Some entry
   pub kept : IsKept entry h
 
-pub has_entry : (entries : List Entry) (book : Book minired) (id : List ℕ) (h : History minired) → IsBook entries book → book id ≡ Some h → HasEntry entries id h
+pub has_entry : (entries : List BookEntry) (book : Book minired) (id : List ℕ) (h : History minired) → IsBook entries book → book id ≡ Some h → HasEntry entries id h
 has_entry entries book id h is e = go (entry_of entries id) refl
   where
-    go : (o : Option Entry) → entry_of entries id ≡ o → HasEntry entries id h
+    go : (o : Option BookEntry) → entry_of entries id ≡ o → HasEntry entries id h
     go None q = absurd (subst (λ z. IsKeptAs None z) e (subst (λ z. IsKeptAs z (book id)) q (is.each id)))
     go (Some x) q = record { entry = x; found = q; kept = subst (λ z. IsKeptAs (Some x) z) e (subst (λ z. IsKeptAs z (book id)) q (is.each id)) }
 
@@ -53,7 +53,7 @@ at_gives w book holds id o m at =
       led = subst (λ z. LeadsByGroups z at.start m) (sym cut) (led_by at.earlier at.start m good at.folds);
     }
 
-is_kept : (o : Option Entry) (p : Option (History minired)) (x : Entry) → IsKeptAs o p → o ≡ Some x → (h : History minired) × (p ≡ Some h) × IsKept x h
+is_kept : (o : Option BookEntry) (p : Option (History minired)) (x : BookEntry) → IsKeptAs o p → o ≡ Some x → (h : History minired) × (p ≡ Some h) × IsKept x h
 is_kept None p x k e = absurd (cc)
 is_kept (Some y) None x k e = absurd k
 is_kept (Some y) (Some h) x k e = (h, refl, subst (λ z. IsKept z h) (let same : y ≡ x = cc in same) k)
@@ -77,6 +77,6 @@ grows_on w v b c is is' g id old e =
 pub gives_one : HistoriesGiveOne
 gives_one w id o m n a b =
     let same : a.entry ≡ b.entry = some_is a.entry b.entry (sym a.found ∙ b.found) in
-    let begun : a.begun ≡ b.begun = made_by_groups_is_one b.entry.start a.begun b.begun (subst (λ (e : Entry). MakesByGroups e.start a.begun) same a.start) b.start in
-    let from : LeadsByGroups (take o b.entry.texts) b.begun m = subst (λ z. LeadsByGroups (take o b.entry.texts) z m) begun (subst (λ (e : Entry). LeadsByGroups (take o e.texts) a.begun m) same a.led) in
+    let begun : a.begun ≡ b.begun = made_by_groups_is_one b.entry.start a.begun b.begun (subst (λ (e : BookEntry). MakesByGroups e.start a.begun) same a.start) b.start in
+    let from : LeadsByGroups (take o b.entry.texts) b.begun m = subst (λ z. LeadsByGroups (take o b.entry.texts) z m) begun (subst (λ (e : BookEntry). LeadsByGroups (take o e.texts) a.begun m) same a.led) in
     led_once (take o b.entry.texts) b.begun m n from b.led

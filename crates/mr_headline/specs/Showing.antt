@@ -2,7 +2,7 @@
 use Rattle.std.specs.Prelude.{◌≡◌, ◌≤◌, ℕ, List, ◌++◌, Some, true, length, take, slice_get}
 use Rattle.mr_entries.specs.Dataset.{Dataset}
 use Rattle.mr_groups.specs.Folding.{LeadsByGroups, MakesByGroups}
-use Rattle.mr_seen.specs.State.{Slot, Entry, WorldState}
+use Rattle.mr_seen.specs.State.{Slot, BookEntry, WorldState}
 use Rattle.mr_seen.specs.Books.{entry_of}
 
 -- Node n isn't stopped, has this id and this offset, and holds m.
@@ -17,7 +17,7 @@ pub record Shows (w : WorldState) (n : ℕ) (id : List ℕ) (offset : ℕ) (m : 
 -- The history of an id is the commands that make the dataset with which it began, and the texts of its groups of effects since. Up
 -- to an offset it gives what so many bytes of these texts make of that dataset, group by group: they end where a group does.
 pub record Gives (w : WorldState) (id : List ℕ) (offset : ℕ) (m : Dataset) : Type 0 where
-  pub entry : Entry
+  pub entry : BookEntry
   pub found : entry_of w.book id ≡ Some entry
   pub within : offset ≤ length entry.texts
   pub begun : Dataset
@@ -25,7 +25,7 @@ pub record Gives (w : WorldState) (id : List ℕ) (offset : ℕ) (m : Dataset) :
   pub led : LeadsByGroups (take offset entry.texts) begun m
 
 -- It began with the same dataset, and there may be more texts behind those of before.
-pub record GoesOn (old new : Entry) : Type 0 where
+pub record GoesOn (old new : BookEntry) : Type 0 where
   pub dataset : Dataset
   pub before : MakesByGroups old.start dataset
   pub after : MakesByGroups new.start dataset
@@ -34,4 +34,4 @@ pub record GoesOn (old new : Entry) : Type 0 where
 
 -- Each id that has a history keeps it.
 abbrev pub HistoriesGoOn : WorldState → WorldState → Type 0
-HistoriesGoOn w v = (id : List ℕ) (old : Entry) → entry_of w.book id ≡ Some old → (new : Entry) × (entry_of v.book id ≡ Some new) × GoesOn old new
+HistoriesGoOn w v = (id : List ℕ) (old : BookEntry) → entry_of w.book id ≡ Some old → (new : BookEntry) × (entry_of v.book id ≡ Some new) × GoesOn old new

@@ -15,7 +15,7 @@ use Rattle.mr_history.proofs.Headline.{row_keeps}
 use Rattle.mr_history.proofs.Theorem.{nowhere_ok}
 use Rattle.mr_language.specs.Minired.{minired}
 use Rattle.mr_language.proofs.MiniredLaws.{minired_laws}
-use Rattle.mr_seen.specs.State.{Link, Slot, Entry}
+use Rattle.mr_seen.specs.State.{Link, Slot, BookEntry}
 use Rattle.mr_seen.specs.Seeing.{seen, seen_node, open_at, link_with, seen_link}
 use Rattle.mr_seen.specs.Books.{entry_of, IsKeptAs, IsBook, begun}
 use Rattle.mr_seen.specs.Carrying.{shut_if, begun_slot}
@@ -29,16 +29,16 @@ use Rattle.mr_seen.proofs.Keeping.{entry_push, kept_on, is_none, with_history, s
 abbrev history_from : Dataset → History minired
 history_from m = record { start = m; effects = [] }
 
-abbrev entry_from : List ℕ → List ℕ → Entry
+abbrev entry_from : List ℕ → List ℕ → BookEntry
 entry_from id start = record { id = id; start = start; texts = [] }
 
-begun_kept : (es : List Entry) (book : Book minired) (id start : List ℕ) (m : Dataset) → IsBook es book → MakesByGroups start m → entry_of es id ≡ None → IsBook (begun es id start) (with_history book id (history_from m))
+begun_kept : (es : List BookEntry) (book : Book minired) (id start : List ℕ) (m : Dataset) → IsBook es book → MakesByGroups start m → entry_of es id ≡ None → IsBook (begun es id start) (with_history book id (history_from m))
 begun_kept es book id start m is makes none = record {
   each = λ i. subst (λ z. IsKeptAs z (with_history book id (history_from m) i)) (sym (entry_push es (entry_from id start) i))
       (kept_on (bytes_eq id i) (entry_of es i) (book i) (entry_from id start) (history_from m) (is.each i) (record { start = makes; texts_are = refl }) (λ t. ap (entry_of es) (sym ((bytes_eq-Decides id i).0 t)) ∙ none));
 }
 
-begun_draws : (es : List Entry) (book : Book minired) (id : List ℕ) (m : Dataset) → IsBook es book → entry_of es id ≡ None → Draws minired book (with_history book id (history_from m)) id m
+begun_draws : (es : List BookEntry) (book : Book minired) (id : List ℕ) (m : Dataset) → IsBook es book → entry_of es id ≡ None → Draws minired book (with_history book id (history_from m)) id m
 begun_draws es book id m is none = record { new_id = is_none (entry_of es id) (book id) (is.each id) none; book = set_history book id (history_from m) }
 
 pub starts : StartsAreRows

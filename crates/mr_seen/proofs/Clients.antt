@@ -24,9 +24,8 @@ use Rattle.mr_commands.specs.Transactions.{Coming, coming, coming_by}
 use Rattle.mr_commands.specs.Transactions.Coming.{waits, marks, nests, drops, ends, quits}
 use Rattle.mr_commands.specs.Requests.{AsksNode, HasPlan, IsPlain, halting_by, rewriting_by, question_by}
 use Rattle.mr_commands.proofs.Replicas.{none_on_replica}
-use Rattle.mr_repl.specs.Backlog.{IsWindow, last_of}
+use Rattle.mr_repl.specs.Backlog.{IsWindow, last_of, offset_limit}
 use Rattle.mr_repl.specs.Lineage.{grown}
-use Rattle.mr_peer_lines.specs.Lines.{most_counted}
 use Rattle.mr_inline.specs.Language.{IsDoomed}
 use Rattle.mr_resp.specs.Request.{IsText}
 use Rattle.mr_resp.specs.Usual.{usual}
@@ -36,7 +35,7 @@ use Rattle.mr_ends.specs.State.EndState.{client}
 use Rattle.mr_outs.specs.Outs.{OutsState, Output, no_output}
 use Rattle.mr_rows.specs.State.{Core, NodeState, end_of}
 use Rattle.mr_rows.specs.Requests as requests
-use Rattle.mr_rows.specs.Growing.{FedTo, grown_by, offset_behind, offset_limit}
+use Rattle.mr_rows.specs.Growing.{FedTo, grown_by, offset_behind}
 use Rattle.mr_rows.specs.Served.{Answered, Served, IsQuiet, left_of}
 use Rattle.mr_rows.specs.ClientRows as row
 use Rattle.mr_history.specs.Language.{Request, Transaction}
@@ -173,8 +172,8 @@ module _ (w : WorldState) (book : Book minired) (l : ℕ) (k : Link) (s : Slot) 
 
   -- .. and each of its effects is done alone
   has_singles : (words : List (List ℕ)) (rest : List ℕ) (a : requests.Asks (unread k.ask) words rest) (reply : Tree) (effects : List Effect) → HasPlan false s.node.core.held words given reply effects
-      → HasEffects (most_counted - s.node.core.lineage.stream.offset) (open_on w.slots k) a.text s.node.core.held given (singles effects)
-  has_singles words rest a reply effects plan = subst (λ (o : Option Transaction). HasEffects (most_counted - s.node.core.lineage.stream.offset) o a.text s.node.core.held given (singles effects)) (sym held)
+      → HasEffects (offset_limit - s.node.core.lineage.stream.offset) (open_on w.slots k) a.text s.node.core.held given (singles effects)
+  has_singles words rest a reply effects plan = subst (λ (o : Option Transaction). HasEffects (offset_limit - s.node.core.lineage.stream.offset) o a.text s.node.core.held given (singles effects)) (sym held)
       (record { words = words; request = a.request; reply = reply; effects = effects; plan = plan; alone = refl })
 
   answers : s.node.core.master ≡ false → (u : Uses Command) → BeginsNone u.words → Event
@@ -226,7 +225,7 @@ module _ (w : WorldState) (book : Book minired) (l : ℕ) (k : Link) (s : Slot) 
   record GrowsSingly (effects : List Effect) (left : Dataset) (backlog : List ℕ) : Type 0 where
     good : All IsGoodEffect effects
     leads : apply_all effects s.node.core.held ≡ Some left
-    within : s.node.core.lineage.stream.offset + length (texts effects) ≤ most_counted
+    within : s.node.core.lineage.stream.offset + length (texts effects) ≤ offset_limit
     last_bytes : EndsAs s.node.core.lineage.stream.held (texts effects) backlog
     node : seen_node (behind s b outs) ≡ record (seen_node s) { held = left; offset = s.node.core.lineage.stream.offset + length (texts effects); backlog = backlog }
     fed : FedTo outs.grown s.node outs.fed
@@ -247,7 +246,7 @@ module _ (w : WorldState) (book : Book minired) (l : ℕ) (k : Link) (s : Slot) 
       }) (record {
         good = single_good effects g.good;
         leads = single_applied effects s.node.core.held ∙ g.leads;
-        within = subst (λ (t : List ℕ). s.node.core.lineage.stream.offset + length t ≤ most_counted) same g.within;
+        within = subst (λ (t : List ℕ). s.node.core.lineage.stream.offset + length t ≤ offset_limit) same g.within;
         last_bytes = subst (λ (t : List ℕ). EndsAs s.node.core.lineage.stream.held t backlog) same g.last_bytes;
         node = g.node ∙ ap (λ (t : List ℕ). record (seen_node s) { held = left; offset = s.node.core.lineage.stream.offset + length t; backlog = backlog }) same;
         fed = g.fed;

@@ -10,16 +10,16 @@ use Rattle.mr_groups.specs.Groups.{group_text}
 use Rattle.mr_history.specs.History.{Book, History, Front, Extends, Branches, texts}
 use Rattle.mr_history.specs.Changes.{SetAt}
 use Rattle.mr_language.specs.Minired.{minired}
-use Rattle.mr_seen.specs.State.{Entry}
+use Rattle.mr_seen.specs.State.{BookEntry}
 use Rattle.mr_seen.specs.Books.{IsKept, entry_of, IsKeptAs, IsBook}
 use Rattle.mr_seen.specs.Books.{extended, cut_of, branched}
 
 -- more texts behind the history of an id
-abbrev longer : List ℕ → List ℕ → Entry → Entry
+abbrev longer : List ℕ → List ℕ → BookEntry → BookEntry
 longer id bytes e = if bytes_eq e.id id then record e { texts = e.texts ++ bytes } else e
 
 -- the entry that is found has the id
-found_id : (es : List Entry) (i : List ℕ) (e : Entry) → entry_of es i ≡ Some e → e.id ≡ i
+found_id : (es : List BookEntry) (i : List ℕ) (e : BookEntry) → entry_of es i ≡ Some e → e.id ≡ i
 found_id [] i e q = absurd (cc)
 found_id (x ∷ es) i e q = go (λ r. found_id es i e r) (bytes_eq x.id i) refl q
   where
@@ -27,7 +27,7 @@ found_id (x ∷ es) i e q = go (λ r. found_id es i e r) (bytes_eq x.id i) refl 
     go f true h r = let one : x ≡ e = cc in ap (λ z. z.id) (sym one) ∙ (bytes_eq-Decides x.id i).0 h
     go f false h r = f r
 
-same_longer : (id bytes i : List ℕ) (o : Option Entry) → ((e : Entry) → o ≡ Some e → e.id ≡ i) → i ≢ id → option_map (longer id bytes) o ≡ o
+same_longer : (id bytes i : List ℕ) (o : Option BookEntry) → ((e : BookEntry) → o ≡ Some e → e.id ≡ i) → i ≢ id → option_map (longer id bytes) o ≡ o
 same_longer id bytes i None f ne = refl
 same_longer id bytes i (Some e) f ne = ap (λ z. Some z) (go (bytes_eq e.id id) refl)
   where
@@ -35,7 +35,7 @@ same_longer id bytes i (Some e) f ne = ap (λ z. Some z) (go (bytes_eq e.id id) 
     go true h = absurd (ne (sym (f e refl) ∙ (bytes_eq-Decides e.id id).0 h))
     go false h = refl
 
-entry_longer : (es : List Entry) (id bytes i : List ℕ) → entry_of (extended es id bytes) i ≡ option_map (longer id bytes) (entry_of es i)
+entry_longer : (es : List BookEntry) (id bytes i : List ℕ) → entry_of (extended es id bytes) i ≡ option_map (longer id bytes) (entry_of es i)
 entry_longer [] id bytes i = refl
 entry_longer (e ∷ es) id bytes i = go (entry_longer es id bytes i) (bytes_eq e.id id) (bytes_eq e.id i) refl refl
   where
@@ -57,7 +57,7 @@ set_history book id h = (ap (λ b. cond b (Some h) (book id)) ((bytes_eq-Decides
     apart true m e ne = absurd (ne (sym ((bytes_eq-Decides id m).0 e)))
     apart false m e ne = refl
 
-grown_one : (id bytes : List ℕ) (gs : List (List Effect)) (h : History minired) (o : Option Entry) (p : Option (History minired)) → bytes ≡ texts minired gs → ((e : Entry) → o ≡ Some e → e.id ≡ id) → p ≡ Some h → IsKeptAs o p
+grown_one : (id bytes : List ℕ) (gs : List (List Effect)) (h : History minired) (o : Option BookEntry) (p : Option (History minired)) → bytes ≡ texts minired gs → ((e : BookEntry) → o ≡ Some e → e.id ≡ id) → p ≡ Some h → IsKeptAs o p
     → IsKeptAs (option_map (longer id bytes) o) (Some (record h { effects = h.effects ++ gs }))
 grown_one id bytes gs h None p b i q k = absurd (subst (λ z. IsKeptAs None z) q k)
 grown_one id bytes gs h (Some e) p b i q k =
@@ -67,7 +67,7 @@ grown_one id bytes gs h (Some e) p b i q k =
       texts_are = ap (λ z. z ++ bytes) kept.texts_are ∙ (ap (λ z. texts minired h.effects ++ z) b ∙ sym (flat_map-append group_text h.effects gs));
     })
 
-other_one : (id bytes : List ℕ) (o : Option Entry) (p : Option (History minired)) → ((e : Entry) → o ≡ Some e → e.id ≢ id) → IsKeptAs o p → IsKeptAs (option_map (longer id bytes) o) p
+other_one : (id bytes : List ℕ) (o : Option BookEntry) (p : Option (History minired)) → ((e : BookEntry) → o ≡ Some e → e.id ≢ id) → IsKeptAs o p → IsKeptAs (option_map (longer id bytes) o) p
 other_one id bytes None p n k = k
 other_one id bytes (Some e) p n k = subst (λ z. IsKeptAs (Some z) p) (sym (go (bytes_eq e.id id) refl)) k
   where
@@ -76,7 +76,7 @@ other_one id bytes (Some e) p n k = subst (λ z. IsKeptAs (Some z) p) (sym (go (
     go false h = refl
 
 -- groups at the end of a history, and their texts behind its texts
-pub extended_kept : (es : List Entry) (book : Book minired) (id bytes : List ℕ) (gs : List (List Effect)) (h : History minired) → IsBook es book → book id ≡ Some h → bytes ≡ texts minired gs
+pub extended_kept : (es : List BookEntry) (book : Book minired) (id bytes : List ℕ) (gs : List (List Effect)) (h : History minired) → IsBook es book → book id ≡ Some h → bytes ≡ texts minired gs
     → IsBook (extended es id bytes) (with_history book id (record h { effects = h.effects ++ gs }))
 extended_kept es book id bytes gs h is at b = record { each = λ i. subst (λ o. IsKeptAs o (with_history book id (record h { effects = h.effects ++ gs }) i)) (sym (entry_longer es id bytes i)) (go i (bytes_eq id i) refl) }
   where
@@ -85,15 +85,15 @@ extended_kept es book id bytes gs h is at b = record { each = λ i. subst (λ o.
         grown_one id bytes gs h (entry_of es i) (book i) b (λ x q. found_id es i x q ∙ sym one) (ap book (sym one) ∙ at) (is.each i)
     go i false e = other_one id bytes (entry_of es i) (book i) (λ x q r. let w : bytes_eq id i ≡ true = (bytes_eq-Decides id i).1 (sym r ∙ found_id es i x q) in let wrong : false ≡ true = sym e ∙ w in absurd (cc)) (is.each i)
 
-pub extends : (es : List Entry) (book : Book minired) (id : List ℕ) (gs : List (List Effect)) (h : History minired) → book id ≡ Some h → Extends minired book (with_history book id (record h { effects = h.effects ++ gs })) id gs
+pub extends : (es : List BookEntry) (book : Book minired) (id : List ℕ) (gs : List (List Effect)) (h : History minired) → book id ≡ Some h → Extends minired book (with_history book id (record h { effects = h.effects ++ gs })) id gs
 extends es book id gs h at = record { history = h; found = at; book = set_history book id (record h { effects = h.effects ++ gs }) }
 
 -- ---- a branch
-abbrev pub or_else : Option Entry → Option Entry → Option Entry
+abbrev pub or_else : Option BookEntry → Option BookEntry → Option BookEntry
 or_else None p = p
 or_else (Some e) p = Some e
 
-pub entry_push : (es : List Entry) (e : Entry) (i : List ℕ) → entry_of (es ++ e ∷ []) i ≡ or_else (entry_of es i) (cond (bytes_eq e.id i) (Some e) None)
+pub entry_push : (es : List BookEntry) (e : BookEntry) (i : List ℕ) → entry_of (es ++ e ∷ []) i ≡ or_else (entry_of es i) (cond (bytes_eq e.id i) (Some e) None)
 entry_push [] e i = refl
 entry_push (x ∷ es) e i = go (bytes_eq x.id i) (entry_push es e i)
   where
@@ -102,7 +102,7 @@ entry_push (x ∷ es) e i = go (bytes_eq x.id i) (entry_push es e i)
     go true h = refl
     go false h = h
 
-pub kept_on : (b : Bool) (o : Option Entry) (p : Option (History minired)) (e : Entry) (h : History minired) → IsKeptAs o p → IsKept e h → (b ≡ true → o ≡ None)
+pub kept_on : (b : Bool) (o : Option BookEntry) (p : Option (History minired)) (e : BookEntry) (h : History minired) → IsKeptAs o p → IsKept e h → (b ≡ true → o ≡ None)
     → IsKeptAs (or_else o (cond b (Some e) None)) (cond b (Some h) p)
 kept_on false None None e h k n f = k
 kept_on false None (Some q) e h k n f = k
@@ -116,14 +116,14 @@ take_here [] ys = refl
 take_here (x ∷ xs) ys = ap (λ z. x ∷ z) (take_here xs ys)
 
 -- a new id whose texts are those of another up to an end of one of its groups
-pub branched_kept : (es : List Entry) (book : Book minired) (id fresh : List ℕ) (o : ℕ) (start : Dataset) (earlier later : List (List Effect)) → IsBook es book → Front minired book id o start earlier later
+pub branched_kept : (es : List BookEntry) (book : Book minired) (id fresh : List ℕ) (o : ℕ) (start : Dataset) (earlier later : List (List Effect)) → IsBook es book → Front minired book id o start earlier later
     → entry_of es fresh ≡ None → IsBook (branched es id o fresh) (with_history book fresh (record { start = start; effects = earlier }))
 branched_kept es book id fresh o start earlier later is front none = go (entry_of es id) refl
   where
     h : History minired
     h = record { start = start; effects = earlier }
 
-    go : (x : Option Entry) → entry_of es id ≡ x → IsBook (es ++ cut_of x fresh o) (with_history book fresh (record { start = start; effects = earlier }))
+    go : (x : Option BookEntry) → entry_of es id ≡ x → IsBook (es ++ cut_of x fresh o) (with_history book fresh (record { start = start; effects = earlier }))
     go None q = absurd (subst (λ z. IsKeptAs None z) front.found (subst (λ z. IsKeptAs z (book id)) q (is.each id)))
     go (Some e) q =
         let kept : IsKept e (record { start = start; effects = earlier ++ later }) = subst (λ z. IsKeptAs (Some e) z) front.found (subst (λ z. IsKeptAs z (book id)) q (is.each id)) in
@@ -135,12 +135,12 @@ branched_kept es book id fresh o start earlier later is front none = go (entry_o
               (record { start = kept.start; texts_are = cut }) (λ t. ap (entry_of es) (sym ((bytes_eq-Decides fresh i).0 t)) ∙ none));
         }
 
-pub is_none : (o : Option Entry) (p : Option (History minired)) → IsKeptAs o p → o ≡ None → p ≡ None
+pub is_none : (o : Option BookEntry) (p : Option (History minired)) → IsKeptAs o p → o ≡ None → p ≡ None
 is_none None None k e = refl
 is_none None (Some h) k e = absurd k
 is_none (Some x) p k e = absurd (cc)
 
-pub branches : (es : List Entry) (book : Book minired) (id fresh : List ℕ) (o : ℕ) (start : Dataset) (earlier later : List (List Effect)) → IsBook es book → Front minired book id o start earlier later
+pub branches : (es : List BookEntry) (book : Book minired) (id fresh : List ℕ) (o : ℕ) (start : Dataset) (earlier later : List (List Effect)) → IsBook es book → Front minired book id o start earlier later
     → entry_of es fresh ≡ None → Branches minired book (with_history book fresh (record { start = start; effects = earlier })) fresh id o
 branches es book id fresh o start earlier later is front none = record {
   new_id = is_none (entry_of es fresh) (book fresh) (is.each fresh) none;

@@ -1,7 +1,7 @@
 -- What a follower refuses, in the words of histories.
 use Rattle.std.proofs.Common.{◌≡◌, ◌≢◌, ◌⊎◌, inl, inr, ℕ, List, [], ◌∷◌, ◌++◌, false, None, length, length-append, append_assoc, refl, sym, ap, subst, ◌∙◌, arith}
 use Rattle.std.proofs.lemmas.List.{append_cancel_left}
-use Rattle.mr_peer_lines.specs.Lines.{status, refusal, size, IsLineText, IsPeerLine, most_counted, SaysNothing}
+use Rattle.mr_peer_lines.specs.Lines.{status, refusal, size, IsLineText, IsPeerLine, SaysNothing}
 use Rattle.mr_peer_lines.specs.Lines as peers
 use Rattle.mr_peer_lines.specs.Replies.{IsReplyText}
 use Rattle.mr_peer_lines.specs.declared.psync.PsyncReply.{PsyncReply}

@@ -8,6 +8,7 @@ use Rattle.std.proofs.lemmas.Fmt.{length-decimal-le, decimal_digit}
 use Rattle.std.proofs.lemmas.List.Elements.{All-nil, All-cons}
 use Rattle.mr_bytes.specs.Number.{number_of, is_i64}
 use Rattle.mr_bytes.proofs.Numbers.{number_is}
+use Rattle.mr_repl.specs.Backlog.{offset_limit}
 use Rattle.mr_arguments.specs.Names.{named}
 use Rattle.mr_arguments.specs.Parts.{with}
 use Rattle.mr_arguments.specs.declared.fault.AskFault.TheVariants.{Integer}
@@ -23,7 +24,6 @@ use Rattle.mr_language.specs.Requests.{kind_of, kind_by, Asks, IsAsked}
 use Rattle.mr_language.specs.Requests.Kind.{psync}
 use Rattle.mr_language.specs.Requests.IsAsked.{by_words}
 use Rattle.mr_language.proofs.Ids.{forty}
-use Rattle.mr_peer_lines.specs.Lines.{most_counted}
 use Rattle.mr_follow.specs.Handshake.{ping_line, port_line, capabilities_line, psync_line}
 use Rattle.mr_rows.specs.Sound.{ports}
 
@@ -90,13 +90,13 @@ wants_kind : (id number : List ℕ) (n : ℤ) → number_of number ≡ Some n �
 unfolding named
 wants_kind id number n e = ap (λ (x : Option ℤ). kind_by (of_kind ask.Node (with (ok_or x Integer) (λ wanted. Ok (node.Psync id wanted))))) e
 
-pub psync_asks : (id : List ℕ) (o : ℕ) → IsId id → o ≤ most_counted → IsAsked None (psync_line (Some (id, o))) (Psync (Some (id, o + 1)))
+pub psync_asks : (id : List ℕ) (o : ℕ) → IsId id → o ≤ offset_limit → IsAsked None (psync_line (Some (id, o))) (Psync (Some (id, o + 1)))
 psync_asks id o is few = asks_short (codes "PSYNC" ∷ digits_of id ∷ decimal (o + 1) ∷ []) (Psync (Some (id, o + 1))) (omega arith) (omega arith)
     (lit< tt, (let l = forty id is in omega (arith, l), (let d = length-decimal-le 20 (o + 1) (lit< tt) (omega (arith, few)) (omega (arith, few)) in omega (arith, d), tt)))
     (subst (λ k. Asks k (Psync (Some (id, o + 1)))) (sym (wants_kind (digits_of id) (decimal (o + 1)) (pos (o + 1)) (number_is (decimal (o + 1)) (pos (o + 1)) (fits o few) refl)))
     (Some (id, o + 1), record { is_id = is; id_is = refl; offset_is = refl }, refl))
   where
-    fits : (n : ℕ) → n ≤ most_counted → IsTrue (is_i64 (pos (n + 1)))
+    fits : (n : ℕ) → n ≤ offset_limit → IsTrue (is_i64 (pos (n + 1)))
     fits n few = grind (arith, nat_tests, few)
 
 -- where there is nothing to continue

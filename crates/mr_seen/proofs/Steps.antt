@@ -7,10 +7,9 @@ use Rattle.std.proofs.lemmas.List.Elements.{All-nil}
 use Rattle.mr_effect.specs.declared.effect.Effect.{Effect}
 use Rattle.mr_entries.specs.Dataset.{Dataset}
 use Rattle.mr_data.specs.declared.given.Given.{Given}
-use Rattle.mr_repl.specs.Backlog.{last_of}
+use Rattle.mr_repl.specs.Backlog.{last_of, offset_limit}
 use Rattle.mr_groups.specs.Groups.{IsGoodGroup, group_texts}
 use Rattle.mr_groups.specs.Folding.{apply_groups}
-use Rattle.mr_peer_lines.specs.Lines.{most_counted}
 use Rattle.mr_ends.specs.State.{EndState}
 use Rattle.mr_ends.specs.State as ends
 use Rattle.mr_ends.specs.State.EndState.{client, waiting, replica, shut}
@@ -40,7 +39,7 @@ use Rattle.mr_language.specs.Changes.{HasEffects, Leads}
 use Rattle.mr_language.specs.Requests.{kind_in, IsAsked}
 use Rattle.mr_language.specs.Requests as language
 use Rattle.mr_seen.specs.Way.{unread, used_on}
-use Rattle.mr_seen.specs.State.{Link, Slot, Entry, WorldState}
+use Rattle.mr_seen.specs.State.{Link, Slot, BookEntry, WorldState}
 use Rattle.mr_seen.specs.Seeing.{seen, seen_way, seen_node, seen_transaction, open_in, open_at, open_on, link_with, seen_link}
 use Rattle.mr_seen.specs.Books.{IsBook, extended}
 use Rattle.mr_seen.specs.Carrying.{stepped, settled, told, reached, behind, booked, booked_as}
@@ -53,7 +52,7 @@ use Rattle.mr_seen.proofs.Singles.{fold_is}
 use Rattle.mr_seen.proofs.Keeping.{with_history, extended_kept, extends}
 
 -- texts that are none change no entry
-pub extended_none : (es : List Entry) (id : List ℕ) → extended es id [] ≡ es
+pub extended_none : (es : List BookEntry) (id : List ℕ) → extended es id [] ≡ es
 extended_none [] id = refl
 extended_none (e ∷ es) id = go (bytes_eq e.id id) (extended_none es id)
   where
@@ -66,7 +65,7 @@ map_same None = refl
 map_same (Some x) = refl
 
 -- the book stays where nothing grew
-pub book_stays : (es : List Entry) (book : Book minired) (a : NodeState) (outs : OutsState) → IsBook es book → outs.used ≡ None → outs.grown ≡ [] → IsBook (booked es a outs) book
+pub book_stays : (es : List BookEntry) (book : Book minired) (a : NodeState) (outs : OutsState) → IsBook es book → outs.used ≡ None → outs.grown ≡ [] → IsBook (booked es a outs) book
 book_stays es book a outs kept unused none = subst (λ z. IsBook z book) (sym (ap (λ u. booked_as u es a.core.lineage.id a.core.lineage.stream.offset outs.grown) unused
     ∙ (ap (extended es a.core.lineage.id) none ∙ extended_none es a.core.lineage.id))) kept
 
@@ -182,7 +181,7 @@ module _ (w : WorldState) (book : Book minired) (l : ℕ) (k : Link) (s : Slot) 
     pub record Grows (groups : List (List Effect)) (held : Dataset) (backlog : List ℕ) : Type 0 where
       pub good : All IsGoodGroup groups
       pub leads : apply_groups groups s.node.core.held ≡ Some held
-      pub within : s.node.core.lineage.stream.offset + length (group_texts groups) ≤ most_counted
+      pub within : s.node.core.lineage.stream.offset + length (group_texts groups) ≤ offset_limit
       pub last_bytes : EndsAs s.node.core.lineage.stream.held (group_texts groups) backlog
       pub node : seen_node (behind s b outs) ≡ record (seen_node s) { held = held; offset = s.node.core.lineage.stream.offset + length (group_texts groups); backlog = backlog }
       pub fed : FedTo outs.grown s.node outs.fed
@@ -192,7 +191,7 @@ module _ (w : WorldState) (book : Book minired) (l : ℕ) (k : Link) (s : Slot) 
 
     -- a command has them, and leaves this open
     pub record Has (uses : rows.Uses minired (seen_link w.slots k) Command) (groups : List (List Effect)) (transaction : Option Transaction) : Type 0 where
-      pub effects : HasEffects (most_counted - s.node.core.lineage.stream.offset) (open_on w.slots k) uses.text s.node.core.held given groups
+      pub effects : HasEffects (offset_limit - s.node.core.lineage.stream.offset) (open_on w.slots k) uses.text s.node.core.held given groups
       pub leads : Leads true (open_on w.slots k) uses.text transaction
       pub link : seen_link V.slots m ≡ concluded (seen_link w.slots k) uses.left outs.reply transaction
 

@@ -16,9 +16,8 @@ use Rattle.mr_groups.specs.Groups.{as_group, group_texts, grown_text}
 use Rattle.mr_commands.specs.Transactions.{Coming, DoesAll, coming, coming_by}
 use Rattle.mr_commands.specs.Transactions.Coming.{waits, marks, nests, drops, ends, quits}
 use Rattle.mr_commands.proofs.Doing.{do_nothing, do_so, have_none}
-use Rattle.mr_repl.specs.Backlog.{IsWindow, last_of}
+use Rattle.mr_repl.specs.Backlog.{IsWindow, last_of, offset_limit}
 use Rattle.mr_repl.specs.Lineage.{grown}
-use Rattle.mr_peer_lines.specs.Lines.{most_counted}
 use Rattle.mr_ends.specs.State as ends
 use Rattle.mr_ends.specs.State.{with_text, as_marked}
 use Rattle.mr_outs.specs.Outs.{OutsState}
@@ -168,7 +167,7 @@ module _ (w : WorldState) (book : Book minired) (l : ℕ) (k : Link) (s : Slot) 
   IsQuietStep = Quiet w book l k s given fresh b outs holds served apart
 
   abbrev room : ℕ
-  room = most_counted - s.node.core.lineage.stream.offset
+  room = offset_limit - s.node.core.lineage.stream.offset
 
   same_node : b.core ≡ s.node.core → b.follow ≡ s.node.follow → seen_node (behind s b outs) ≡ seen_node s
   same_node e f = node_is s b (filed outs s.file) s.node.core s.node.follow e f
@@ -305,7 +304,7 @@ module _ (w : WorldState) (book : Book minired) (l : ℕ) (k : Link) (s : Slot) 
       texts_are : grown_text r.effects ≡ group_texts (as_group r.effects)
       texts_are = sym (as_group_texts r.effects)
 
-      few : s.node.core.lineage.stream.offset + length (grown_text r.effects) ≤ most_counted
+      few : s.node.core.lineage.stream.offset + length (grown_text r.effects) ≤ offset_limit
       few =
           let countable = window.countable in
           let fits : length (grown_text r.effects) ≤ room = sound.fits (omega arith) in
@@ -322,7 +321,7 @@ module _ (w : WorldState) (book : Book minired) (l : ℕ) (k : Link) (s : Slot) 
           (record {
             good = good_as_group r.effects sound.join (good_effects r.effects s.node.core.held r.held sound.leads sound.short);
             leads = as_group_applied r.effects s.node.core.held r.held sound.leads;
-            within = subst (λ (z : List ℕ). s.node.core.lineage.stream.offset + length z ≤ most_counted) texts_are few;
+            within = subst (λ (z : List ℕ). s.node.core.lineage.stream.offset + length z ≤ offset_limit) texts_are few;
             last_bytes = subst (λ (z : List ℕ). EndsAs s.node.core.lineage.stream.held z (last_of s.node.core.lineage.stream.capacity (s.node.core.lineage.stream.held ++ grown_text r.effects))) texts_are
                 (ends_as s.node.core.lineage.stream.capacity s.node.core.lineage.stream.held (grown_text r.effects));
             node = node_is s b (filed outs s.file) (record s.node.core { held = r.held; lineage = grown s.node.core.lineage (grown_text r.effects) }) s.node.follow r.core r.leaves.follow

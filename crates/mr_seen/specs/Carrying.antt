@@ -10,7 +10,7 @@ use Rattle.mr_outs.specs.Outs.{OutsState}
 use Rattle.mr_entries.specs.Dataset.{Dataset}
 use Rattle.mr_rows.specs.State.{NodeState, started, end_of}
 use Rattle.mr_seen.specs.Way.{no_way, sent_on, taken_on, left_on}
-use Rattle.mr_seen.specs.State.{a_client, a_node, Link, Slot, Entry, WorldState}
+use Rattle.mr_seen.specs.State.{a_client, a_node, Link, Slot, BookEntry, WorldState}
 use Rattle.mr_seen.specs.Books.{extended, branched, begun}
 
 -- ---- the links that a node serves
@@ -50,11 +50,11 @@ abbrev pub filed : OutsState → List ℕ → List ℕ
 filed outs file = filed_by outs.replaced (file ++ outs.appended)
 
 -- the stream of the id that the node had grows, or branches at the node's offset
-abbrev pub booked_as : Option (List ℕ) → List Entry → List ℕ → ℕ → List ℕ → List Entry
+abbrev pub booked_as : Option (List ℕ) → List BookEntry → List ℕ → ℕ → List ℕ → List BookEntry
 booked_as None es id offset bytes = extended es id bytes
 booked_as (Some fresh) es id offset bytes = branched es id offset fresh
 
-abbrev pub booked : List Entry → NodeState → OutsState → List Entry
+abbrev pub booked : List BookEntry → NodeState → OutsState → List BookEntry
 booked es a outs = booked_as outs.used es a.core.lineage.id a.core.lineage.stream.offset outs.grown
 
 abbrev pub behind : Slot → NodeState → OutsState → Slot

@@ -26,7 +26,7 @@ pub record Slot : Type 0 where
   pub dialled : ℕ
 
 -- an id that was drawn, the commands that make the dataset it began with, and the texts of its stream since
-pub record Entry : Type 0 where
+pub record BookEntry : Type 0 where
   pub id : List ℕ
   pub start : List ℕ
   pub texts : List ℕ
@@ -34,4 +34,4 @@ pub record Entry : Type 0 where
 pub record WorldState : Type 0 where
   pub slots : List Slot
   pub links : List Link
-  pub book : List Entry
+  pub book : List BookEntry

@@ -7,7 +7,7 @@ use Rattle.mr_ends.specs.State.{Transaction}
 use Rattle.mr_rows.specs.State.{NodeState, end_of}
 use Rattle.mr_rows.specs.Sound.{IsSound}
 use Rattle.mr_seen.specs.Way.{IsWay, unread}
-use Rattle.mr_seen.specs.State.{a_node, Entry, Link, Slot, WorldState}
+use Rattle.mr_seen.specs.State.{a_node, BookEntry, Link, Slot, WorldState}
 use Rattle.mr_seen.specs.Worlds.{IsWorld, HasServer, HasMaster, end_for}
 use Rattle.mr_seen.proofs.Places.{set_here, set_there, set_cases, push_cases, push_old, some_is}
 use Rattle.mr_seen.proofs.Reading.{number_or}
@@ -164,7 +164,7 @@ link_comes w k is ask tell served new = record {
   followers = λ m u name f e up q. let h = is.followers m u name f e up q in record { link = h.link; found = push_old w.links k u.dialled h.link h.found; caller = h.caller; agrees = h.agrees };
 }
 
-pub node_comes : (w : WorldState) (t : Slot) (book : List Entry) → IsWorld w → IsSound t.node → ((name : LinkId) (f : FollowState) → t.node.follow ≡ Some (name, f) → ⊥) → IsWorld (record w { slots = w.slots ++ t ∷ []; book = book })
+pub node_comes : (w : WorldState) (t : Slot) (book : List BookEntry) → IsWorld w → IsSound t.node → ((name : LinkId) (f : FollowState) → t.node.follow ≡ Some (name, f) → ⊥) → IsWorld (record w { slots = w.slots ++ t ∷ []; book = book })
 node_comes w t book is sound nobody = record {
   asks = is.asks;
   tells = is.tells;

@@ -54,5 +54,5 @@ module _ (w v : WorldState) where
 
   pub tick_files : (n : ℕ) (now : ℤ) → TickCall w n now v (Ok tt) → FilesGoOn w v
   tick_files n now (Ticks.carries t is) = is_as _ is (files.ticks w n t.slot now t.node t.outs t.running.at t.running.up t.row)
-  tick_files n now (Ticks.fails t is) = is_as _ is (files.stops w n t.slot (stopped_as t.node) refl)
+  tick_files n now (Ticks.fails t takes is) = is_as _ is (files.stops w n t.slot (stopped_as t.node) refl)
   tick_files n now (Ticks.rests d is) = no_file w is refl

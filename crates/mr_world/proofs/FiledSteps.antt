@@ -29,7 +29,7 @@ module _ (w v : WorldState) where
 
   serves : (l : ℕ) (given : Given) (fresh : List ℕ) → Serves w l given fresh v → FilesGoOn w v
   serves l given fresh (Serves.carries t is) = is_as _ is (served l given fresh t.link t.slot t.node t.outs t.served t.row)
-  serves l given fresh (Serves.fails t is) = is_as _ is (files.stops w t.link.to t.slot (stopped_as t.node) refl)
+  serves l given fresh (Serves.fails t takes is) = is_as _ is (files.stops w t.link.to t.slot (stopped_as t.node) refl)
   serves l given fresh (Serves.idles t is) = is_as _ is (files.idle_steps w t.link.to t.slot (unread t.link.ask) t.node t.served.at t.served.up t.idles)
   serves l given fresh (Serves.spends t is) = is_as _ is (files.stops w t.link.to t.slot t.node (spends_down t.link t.slot.node given t.node t.spends))
   serves l given fresh (Serves.rests k at down is) = no_file w v w is refl
@@ -40,7 +40,7 @@ module _ (w v : WorldState) where
   -- ---- at the end of the node that dialled it
   follows : (l : ℕ) → IsWorld w → Follows w l v → FilesGoOn w v
   follows l is (Follows.carries h e) = is_as _ e (files.master_steps w h.number h.who.slot h.who.link h.name h.came h.node h.outs is h.who.by.followed h.row)
-  follows l is (Follows.fails h e) = is_as _ e (files.stops w h.number h.who.slot (stopped_as h.node) refl)
+  follows l is (Follows.fails h takes e) = is_as _ e (files.stops w h.number h.who.slot (stopped_as h.node) refl)
   follows l is (Follows.waits h) = is_as _ h.carried (files.master_waits w h.number h.who.slot h.who.link h.name h.node is h.who.by.followed h.row)
   follows l is (Follows.spends h) = is_as _ h.is (files.stops w h.number h.who.slot h.node (ap (λ (z : NodeState). z.core.up) h.row.node))
   follows l is (Follows.rests r same) = no_file w v w same refl

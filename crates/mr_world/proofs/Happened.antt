@@ -9,7 +9,7 @@ use Rattle.mr_history.specs.Event.Side.{Server, Dialler}
 use Rattle.mr_history.specs.Changing.{Still}
 use Rattle.mr_language.specs.Minired.{minired}
 use Rattle.mr_rows.specs.State.{stopped_as}
-use Rattle.mr_seen.specs.State.{Entry, Link, Slot, WorldState}
+use Rattle.mr_seen.specs.State.{BookEntry, Link, Slot, WorldState}
 use Rattle.mr_seen.specs.Seeing.{seen}
 use Rattle.mr_seen.specs.Books.{entry_of, IsBook}
 use Rattle.mr_seen.specs.Carrying.{fed_caller, restarted_with}
@@ -37,10 +37,10 @@ use Rattle.mr_world.specs.declared.event.Event.TheVariants as event
 use Rattle.mr_world.specs.Running.{EventCall, by_opener, is_between_nodes}
 
 -- what isn't spent isn't drawn
-pub fresh : (es : List Entry) (id : List ℕ) → is_spent es id ≡ false → entry_of es id ≡ None
+pub fresh : (es : List BookEntry) (id : List ℕ) → is_spent es id ≡ false → entry_of es id ≡ None
 fresh es id e = go (bytes_eq id zero_id) (entry_of es id) e
   where
-    go : (b : Bool) (o : Option Entry) → b || is_some o ≡ false → o ≡ None
+    go : (b : Bool) (o : Option BookEntry) → b || is_some o ≡ false → o ≡ None
     go b None q = refl
     go true (Some x) q = absurd (cc)
     go false (Some x) q = absurd (cc)
@@ -96,7 +96,7 @@ module _ (w v : WorldState) where
 
   pub ticked : (n : ℕ) (given : Given) (done : Unit {0}) → TickCall w n given.now v (Ok done) → Happens w v
   ticked n given done (Ticks.carries t is) = an (events.Event.Tick n given) _ is (λ book holds. ticks w book n t.slot given t.node t.outs holds t.running t.row)
-  ticked n given done (Ticks.fails t is) = an (events.Event.Tick n given) _ is (λ book holds. tick_stops w book n t.slot given (stopped_as t.node) holds t.running refl)
+  ticked n given done (Ticks.fails t takes is) = an (events.Event.Tick n given) _ is (λ book holds. tick_stops w book n t.slot given (stopped_as t.node) holds t.running refl)
   ticked n given done (Ticks.rests d is) = nothing is
 
   pub stepped_there : (l : ℕ) (given : Given) (id : List ℕ) (done : Unit {0}) → StepCall w l given id v (Ok done) → Happens w v

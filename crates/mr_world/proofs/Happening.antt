@@ -48,7 +48,7 @@ module _ (w : WorldState) (book : Book minired) (l : ℕ) (given : Given) (fresh
   happens (Follows.carries h e) =
       subst (λ (z : WorldState). Happens z l) (sym e) (subst (λ (i : ℕ). Happens (followed w h.number h.who.slot h.who.link h.node h.outs) i) h.who.by.dialled
       (master_steps w book h.number h.who.slot h.who.link h.name h.came given fresh h.node h.outs holds h.who.by.followed h.row))
-  happens (Follows.fails h e) =
+  happens (Follows.fails h takes e) =
       subst (λ (z : WorldState). Happens z l) (sym e) (subst (λ (i : ℕ). Happens (put_node w h.number h.who.slot (stopped_as h.node)) i) h.who.by.dialled
       (master_stops w book h.number h.who.slot h.who.link h.name h.who.reader given fresh (stopped_as h.node) holds h.who.by.followed h.who.by.follows refl))
   happens (Follows.waits h) = subst (λ (i : ℕ). Happens v i) h.who.by.dialled

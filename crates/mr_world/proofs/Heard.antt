@@ -30,6 +30,7 @@ use Rattle.mr_seen.proofs.Masters.{counted}
 use Rattle.mr_seen.proofs.Following.{masters_keep, reads_by}
 use Rattle.mr_seen.proofs.Waiting.{agreed, lacks_alone, lacks_keep, waits_alone, waits_keep}
 use Rattle.mr_carrying.specs.AtLink.{heard_by}
+use Rattle.mr_carrying.specs.Memory.{TakesMemory}
 use Rattle.mr_carrying.proofs.Places.{stands, set_twice}
 use Rattle.mr_world.specs.declared.refusal.Refusal.{Refusal}
 use Rattle.mr_world.specs.declared.refusal.Refusal.TheVariants as refusal
@@ -166,12 +167,12 @@ module _ (w : WorldState) (l n : ℕ) (name : LinkId) (is : IsWorld w) (who : Is
           ∙ (ap (λ q. record w { slots = slice_set w.slots n (behind who.slot t.node outs); links = slice_set w.links l q }) heard_link
           ∙ ap (λ q. record w { slots = slice_set w.slots n (behind who.slot t.node outs); links = slice_set w.links q (heard_as t.node.follow outs.reply who.link) }) (sym who.by.dialled)))
 
-      pub failed : (y g z f : Slot) (links : List Link) → y ≡ get_or (slice_set w.slots n t) n y → g ≡ y → z ≡ get_or (slice_set (slice_set w.slots n t) n g) n z → f ≡ record z { node = stopped_as z.node } → links ≡ w.links
+      pub failed : TakesMemory outs → (y g z f : Slot) (links : List Link) → y ≡ get_or (slice_set w.slots n t) n y → g ≡ y → z ≡ get_or (slice_set (slice_set w.slots n t) n g) n z → f ≡ record z { node = stopped_as z.node } → links ≡ w.links
           → Follows w l (record w { slots = slice_set (slice_set (slice_set w.slots n t) n g) n f; links = links })
-      failed y g z f links again same third stops ls =
+      failed takes y g z f links again same third stops ls =
           let one : g ≡ t = same ∙ read y again in
           let two : z ≡ t = read z (third ∙ ap (λ (q : List Slot). get_or q n z) (set_twice w.slots n t g ∙ ap (slice_set w.slots n) one)) in
-          Follows.fails heard (
+          Follows.fails heard takes (
           ap (λ q. record w { slots = slice_set (slice_set (slice_set w.slots n t) n g) n f; links = q }) ls
           ∙ ap (λ q. record w { slots = q }) (set_twice (slice_set w.slots n t) n g f ∙ (set_twice w.slots n t f
           ∙ ap (slice_set w.slots n) (stops ∙ ap (λ (q : Slot). record q { node = stopped_as q.node }) (two ∙ whole)))))
@@ -179,7 +180,7 @@ module _ (w : WorldState) (l n : ℕ) (name : LinkId) (is : IsWorld w) (who : Is
 -- ---- what is true of each World stays
 follows_keep : (w v : WorldState) (l : ℕ) → IsWorld w → Follows w l v → IsWorld v
 follows_keep w v l is (Follows.carries h e) = subst (λ (z : WorldState). IsWorld z) (sym e) (masters_keep w h.number h.who.slot h.who.link h.name h.came h.node h.outs is h.who.by.followed h.sound h.row)
-follows_keep w v l is (Follows.fails h e) = subst (λ (z : WorldState). IsWorld z) (sym e) (stops_world w h.number h.who.slot (stopped_as h.node) is h.who.by.followed.at refl)
+follows_keep w v l is (Follows.fails h takes e) = subst (λ (z : WorldState). IsWorld z) (sym e) (stops_world w h.number h.who.slot (stopped_as h.node) is h.who.by.followed.at refl)
 follows_keep w v l is (Follows.waits h) = subst (λ (z : WorldState). IsWorld z) (sym h.carried) (waits_keep w h.number h.who.slot h.who.link h.name h.node is h.who.by.followed h.sound h.row)
 follows_keep w v l is (Follows.spends h) = subst (λ (z : WorldState). IsWorld z) (sym h.is) (stops_world w h.number h.who.slot h.node is h.who.by.followed.at (ap (λ (z : NodeState). z.core.up) h.row.node))
 follows_keep w v l is (Follows.rests r same) = subst (λ (z : WorldState). IsWorld z) (sym same) is

@@ -1,18 +1,18 @@
 pub mod Joins
 pub mod Changing
 pub mod Kept
-mod Feeding
+pub mod Feeding
 pub mod Ticking
-mod Dialling
+pub mod Dialling
 pub mod Filed
 mod FiledSteps
 mod DialFiles
 mod FilesPassing
 pub mod Happened
-mod Unchanged
+pub mod Unchanged
 mod Passing
 mod Taken
-mod Telling
+pub mod Telling
 pub mod Served
 pub mod Servings
 pub mod ServedEvents
@@ -21,5 +21,8 @@ mod Restarts
 pub mod Heard
 pub mod Happening
 pub mod Connects
-mod Meeting
+pub mod Meeting
 mod Connected
+mod Talking
+mod Talked
+mod Lacking

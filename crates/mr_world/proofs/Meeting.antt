@@ -1,8 +1,8 @@
 -- How the parts of it make it that a node dials another, or itself.
-use Rattle.std.proofs.Common.{zero, suc, ◌≡◌, ◌≢◌, ◌⊎◌, inl, inr, ◌<◌, ◌≤◌, ◌+◌, ◌^◌, ◌++◌, ◌∷◌, [], ℕ, List, Bool, true, false, None, Some, Err, length, get_or, refl, sym, ap, subst, ◌∙◌, arith}
+use Rattle.std.proofs.Common.{zero, suc, ◌≡◌, ◌≢◌, ◌⊎◌, inl, inr, ◌<◌, ◌≤◌, ◌+◌, ◌++◌, ◌∷◌, [], ℕ, List, Bool, true, false, None, Some, Err, length, get_or, refl, sym, ap, subst, ◌∙◌, arith}
 use Rattle.std.specs.Prelude.{slice_get, slice_set}
 use Rattle.std.proofs.lemmas.Option.{slice_get-get_or}
-use Rattle.mr_links.specs.Links.{Links}
+use Rattle.mr_links.specs.Links.{Links, links_limit}
 use Rattle.mr_links.specs.declared.link_id.LinkId.{LinkId}
 use Rattle.mr_outs.specs.Outs.{OutsState}
 use Rattle.mr_follow.specs.Handshake.{ping_line}
@@ -219,7 +219,7 @@ module _ (w : WorldState) (n m : ℕ) (x y : Slot) (n_in : n < length w.slots) (
             abbrev behind : WorldState
             behind = record w { slots = slice_set (slice_set (slice_set w.slots m t) n r) m c; links = links }
 
-            stops_as : (d : Slot) → IsRunning w n d → 2 ^ 62 ≤ s.node.ends.opened → behind ≡ put_node w n d (stopped_as d.node) → DiallerStops w n m behind
+            stops_as : (d : Slot) → IsRunning w n d → links_limit ≤ s.node.ends.opened → behind ≡ put_node w n d (stopped_as d.node) → DiallerStops w n m behind
             stops_as d runs far is = record {
               server = y;
               running = running;
@@ -235,7 +235,7 @@ module _ (w : WorldState) (n m : ℕ) (x y : Slot) (n_in : n < length w.slots) (
             }
 
             -- the dialler is another node
-            stops_other : n ≢ m → slice_get w.slots n ≡ Some s → 2 ^ 62 ≤ s.node.ends.opened → r.node ≡ stopped_as s.node → DiallerStops w n m behind
+            stops_other : n ≢ m → slice_get w.slots n ≡ Some s → links_limit ≤ s.node.ends.opened → r.node ≡ stopped_as s.node → DiallerStops w n m behind
             stops_other ne e far stops = stops_as s (record { at = e; up = up_still }) far
                 (ap (λ (z : List Link). record w { slots = slice_set (slice_set (slice_set w.slots m t) n r) m c; links = z }) ls
                 ∙ ap (λ (z : List Slot). record w { slots = z }) (set_apart (slice_set w.slots m t) n m r c ne
@@ -243,7 +243,7 @@ module _ (w : WorldState) (n m : ℕ) (x y : Slot) (n_in : n < length w.slots) (
                 ∙ ap (slice_set w.slots n) (rs ∙ ap (λ (z : NodeState). record s { node = z }) stops))))
 
             -- .. the same
-            stops_itself : n ≡ m → s ≡ t → 2 ^ 62 ≤ s.node.ends.opened → r.node ≡ stopped_as s.node → DiallerStops w n m behind
+            stops_itself : n ≡ m → s ≡ t → links_limit ≤ s.node.ends.opened → r.node ≡ stopped_as s.node → DiallerStops w n m behind
             stops_itself same one far stops =
                 let whole : r ≡ record y { node = stopped_as t.node } = rs ∙ (ap (λ (z : NodeState). record s { node = z }) stops ∙ ap (λ (z : Slot). record z { node = stopped_as z.node }) (one ∙ rest)) in
                 let read : q ≡ record y { node = stopped_as t.node } = read_itself same ∙ whole in

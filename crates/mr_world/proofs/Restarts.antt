@@ -8,7 +8,7 @@ use Rattle.mr_repl.specs.ReplId.{IsId}
 use Rattle.mr_follow.specs.State.{FollowState, Agrees}
 use Rattle.mr_rows.specs.Sound.{IsSound}
 use Rattle.mr_seen.specs.Way.{IsWay, unread}
-use Rattle.mr_seen.specs.State.{Entry, Link, Slot, WorldState}
+use Rattle.mr_seen.specs.State.{BookEntry, Link, Slot, WorldState}
 use Rattle.mr_seen.specs.Worlds.{IsWorld, HasMaster, end_for}
 use Rattle.mr_seen.specs.Books.{begun}
 use Rattle.mr_seen.specs.Carrying.{restarted_with, shut_if}
@@ -51,7 +51,7 @@ here_is : (m n : ℕ) → m ≡ n → (m == n) ≡ false → ⊥
 here_is m n e f = grind arith
 
 -- ---- what is true of each World doesn't speak of the book
-other_book : (w : WorldState) (book : List Entry) → IsWorld w → IsWorld (record w { book = book })
+other_book : (w : WorldState) (book : List BookEntry) → IsWorld w → IsWorld (record w { book = book })
 other_book w book is = record { asks = is.asks; tells = is.tells; servers = is.servers; names = is.names; nodes = is.nodes; followers = is.followers }
 
 module _ (w : WorldState) (n : ℕ) (s t : Slot) (is : IsWorld w) (at : slice_get w.slots n ≡ Some s) (sound : IsSound t.node) (alone : t.node.follow ≡ None) where
@@ -109,7 +109,7 @@ module _ (w : WorldState) (n : ℕ) (x : Slot) (within : n < length w.slots) (sl
   pub there_is : IsThere w n
   there_is = record { slot = x; at = stands w.slots n x within slot }
 
-  pub restarts_here : (kept id : List ℕ) (port backlog : ℕ) (t : Slot) (ends : List Link) (book : List Entry) → IsLoaded kept (not x.as_master) port backlog id t
+  pub restarts_here : (kept id : List ℕ) (port backlog : ℕ) (t : Slot) (ends : List Link) (book : List BookEntry) → IsLoaded kept (not x.as_master) port backlog id t
       → ends ≡ map (shut_at n) w.links → book ≡ begun w.book id t.file
       → Restarts w n kept id port backlog (record { slots = slice_set w.slots n t; links = ends; book = book })
   restarts_here kept id port backlog t ends book l ls bs = record {

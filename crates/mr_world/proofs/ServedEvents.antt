@@ -10,7 +10,7 @@ use Rattle.mr_history.specs.Event as events
 use Rattle.mr_history.specs.Event.Side.{Server}
 use Rattle.mr_history.specs.Changing.Unless.{stopped}
 use Rattle.mr_language.specs.Minired.{minired}
-use Rattle.mr_seen.specs.State.{Entry, Link, WorldState}
+use Rattle.mr_seen.specs.State.{BookEntry, Link, WorldState}
 use Rattle.mr_seen.specs.Seeing.{seen_link, seen_node}
 use Rattle.mr_seen.specs.Books.{entry_of}
 use Rattle.mr_seen.specs.Carrying.{stepped}
@@ -24,7 +24,7 @@ use Rattle.mr_world.specs.Serving.{HasServed, ServedRow, Serves}
 use Rattle.mr_world.proofs.Spent.{spends_down}
 
 -- an id that may be drawn has no entry
-no_entry : (p : Bool) (o : Option Entry) → (p || is_some o) ≡ false → o ≡ None
+no_entry : (p : Bool) (o : Option BookEntry) → (p || is_some o) ≡ false → o ≡ None
 no_entry true o e = absurd (cc)
 no_entry false None e = refl
 no_entry false (Some x) e = absurd (cc)
@@ -53,7 +53,7 @@ module _ (w : WorldState) (book : Book minired) (l : ℕ) (given : Given) (fresh
 
   pub step_is_event : (v : WorldState) → is_spent w.book fresh ≡ false → Serves w l given fresh v → Event v
   step_is_event v unspent (Serves.carries t e) = subst Event (sym e) (served_event unspent t)
-  step_is_event v unspent (Serves.fails t e) = subst Event (sym e) (stopped_steps w book l t.link t.slot given fresh (stopped_as t.node) holds t.served refl)
+  step_is_event v unspent (Serves.fails t takes e) = subst Event (sym e) (stopped_steps w book l t.link t.slot given fresh (stopped_as t.node) holds t.served refl)
   step_is_event v unspent (Serves.idles t e) = subst Event (sym e) (idle_steps w book l t.link t.slot given fresh t.node holds t.served t.idles)
   step_is_event v unspent (Serves.spends t e) = subst Event (sym e) (stopped_steps w book l t.link t.slot given fresh t.node holds t.served (spends_down t.link t.slot.node given t.node t.spends))
   step_is_event v unspent (Serves.rests k at down e) = subst Event (sym e) (rests_event k at down)

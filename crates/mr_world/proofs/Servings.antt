@@ -14,7 +14,7 @@ use Rattle.mr_node.specs.declared.fault.NodeFault.TheVariants as fault
 use Rattle.mr_node.specs.declared.step.Step.{Step}
 use Rattle.mr_node.specs.declared.step.Step.TheVariants as step
 use Rattle.mr_seen.specs.Way.{unread}
-use Rattle.mr_seen.specs.State.{Entry, Link, Slot, WorldState}
+use Rattle.mr_seen.specs.State.{BookEntry, Link, Slot, WorldState}
 use Rattle.mr_seen.specs.Worlds.{IsWorld, end_for}
 use Rattle.mr_seen.specs.Carrying.{behind, booked_as, filed, put_node, stepped}
 use Rattle.mr_seen.proofs.Places.{is_within, set_here, set_same, some_is}
@@ -42,7 +42,7 @@ served_keeps w l given fresh is t = elim t.row [
 pub step_keeps : (w v : WorldState) (l : ℕ) (given : Given) (fresh : List ℕ) (r : Result (Unit {0}) Refusal) → IsWorld w → StepCall w l given fresh v r → IsWorld v
 step_keeps w v l given fresh (Ok done) is c = elim c.1 [
   | Serves.carries t e ↦ subst (λ (z : WorldState). IsWorld z) (sym e) (served_keeps w l given fresh is t)
-  | Serves.fails t e ↦ subst (λ (z : WorldState). IsWorld z) (sym e) (stops_world w t.link.to t.slot (stopped_as t.node) is t.served.at refl)
+  | Serves.fails t takes e ↦ subst (λ (z : WorldState). IsWorld z) (sym e) (stops_world w t.link.to t.slot (stopped_as t.node) is t.served.at refl)
   | Serves.idles t e ↦ subst (λ (z : WorldState). IsWorld z)
       (sym (e ∙ (ap (put_node w t.link.to t.slot) t.idles.same ∙ ap (λ (z : List Slot). record w { slots = z }) (set_same w.slots t.link.to t.slot t.served.at)))) is
   | Serves.spends t e ↦ subst (λ (z : WorldState). IsWorld z) (sym e) (stops_world w t.link.to t.slot t.node is t.served.at (spends_down t.link t.slot.node given t.node t.spends))
@@ -59,22 +59,22 @@ module _ (w : WorldState) (n l : ℕ) (s x : Slot) (k : Link) (within : n < leng
   one : x ≡ s
   one = some_is x s (sym (stands w.slots n x within slot) ∙ at)
 
-  pub carries_here : (id : List ℕ) (offset : ℕ) (outs : OutsState) (g : Slot) (links : List Link) (book : List Entry) → g ≡ record x { file = filed outs x.file }
+  pub carries_here : (id : List ℕ) (offset : ℕ) (outs : OutsState) (g : Slot) (links : List Link) (book : List BookEntry) → g ≡ record x { file = filed outs x.file }
       → ((q : Link) → slice_get w.links l ≡ Some q → links ≡ answered_links n l q x.node outs w.links) → book ≡ booked_as outs.used w.book id offset outs.grown
       → ◌≡◌ {A = WorldState} (record { slots = slice_set w.slots n g; links = links; book = book }) (carried_as w n s l k id offset outs)
   carries_here id offset outs g links book f ls bs =
       ap (λ (z : List Link). record { slots = slice_set w.slots n g; links = z; book = book }) (ls k found ∙ ap (λ (z : Slot). answered_links n l k z.node outs w.links) one)
-      ∙ (ap (λ (z : List Entry). record { slots = slice_set w.slots n g; links = answered_links n l k s.node outs w.links; book = z }) bs
+      ∙ (ap (λ (z : List BookEntry). record { slots = slice_set w.slots n g; links = answered_links n l k s.node outs w.links; book = z }) bs
       ∙ ap (λ (z : Slot). record { slots = slice_set w.slots n z; links = answered_links n l k s.node outs w.links; book = booked_as outs.used w.book id offset outs.grown })
       (f ∙ ap (λ (z : Slot). record z { file = filed outs z.file }) one))
 
-  pub stops_here : (g y f : Slot) (links : List Link) (book : List Entry) → g ≡ x → y ≡ get_or (slice_set w.slots n g) n y → f ≡ record y { node = stopped_as y.node } → links ≡ w.links → book ≡ w.book
+  pub stops_here : (g y f : Slot) (links : List Link) (book : List BookEntry) → g ≡ x → y ≡ get_or (slice_set w.slots n g) n y → f ≡ record y { node = stopped_as y.node } → links ≡ w.links → book ≡ w.book
       → ◌≡◌ {A = WorldState} (record { slots = slice_set (slice_set w.slots n g) n f; links = links; book = book }) (put_node w n s (stopped_as s.node))
   stops_here g y f links book same again stops ls bs =
       let placed : slice_get (slice_set w.slots n g) n ≡ Some g = set_here w.slots n g s at in
       let two : y ≡ g = some_is y g (sym (stands (slice_set w.slots n g) n y (is_within (slice_set w.slots n g) n g placed) again) ∙ placed) in
       ap (λ (z : List Link). record { slots = slice_set (slice_set w.slots n g) n f; links = z; book = book }) ls
-      ∙ (ap (λ (z : List Entry). record { slots = slice_set (slice_set w.slots n g) n f; links = w.links; book = z }) bs
+      ∙ (ap (λ (z : List BookEntry). record { slots = slice_set (slice_set w.slots n g) n f; links = w.links; book = z }) bs
       ∙ ap (λ (z : List Slot). record { slots = z; links = w.links; book = w.book })
       (set_twice w.slots n g f ∙ ap (slice_set w.slots n) (stops ∙ ap (λ (z : Slot). record z { node = stopped_as z.node }) (two ∙ (same ∙ one)))))
 
@@ -178,7 +178,7 @@ module _ (w : WorldState) (l n : ℕ) (name : LinkId) (given : Given) (fresh : L
 
         pub carries_there : (sound : IsSound t.node) (id : List ℕ) (offset : ℕ) (y : Slot) (u : WorldState) → y ≡ get_or w.slots n y → shown y.node.core ≡ Some (id, offset)
             → Carries (record w { slots = slice_set w.slots n t }) n l id offset outs u → Serves w l given fresh u
-        carries_there sound id offset y u early shows c = elim (c t v.link (set_here w.slots n t v.slot placed) v.served.found) [ inl q ↦ Serves.carries had (q ∙ all) | inr q ↦ Serves.fails had (q ∙ stop) ]
+        carries_there sound id offset y u early shows c = elim (c t v.link (set_here w.slots n t v.slot placed) v.served.found) [ inl q ↦ Serves.carries had (q ∙ all) | inr q ↦ Serves.fails had q.0 (q.1 ∙ stop) ]
           where
             had : HasServed w l given fresh
             had = record { link = v.link; slot = v.slot; served = v.served; node = t.node; outs = outs; row = row_there; sound = sound }

@@ -5,11 +5,12 @@ use Rattle.mr_outs.specs.Outs.{OutsState}
 use Rattle.mr_rows.specs.Sound.{IsSound}
 use Rattle.mr_rows.specs.State.{Core, NodeState, shown, stopped_as}
 use Rattle.mr_rows.specs.TimeRows.{TickRow}
-use Rattle.mr_seen.specs.State.{Entry, Link, Slot, WorldState}
+use Rattle.mr_seen.specs.State.{BookEntry, Link, Slot, WorldState}
 use Rattle.mr_seen.specs.Worlds.{IsWorld}
 use Rattle.mr_seen.specs.Carrying.{booked_as, filed, reached, said_on}
 use Rattle.mr_seen.proofs.Places.{is_within, set_here, some_is}
 use Rattle.mr_seen.proofs.Kept.{ticks_keep}
+use Rattle.mr_carrying.specs.Memory.{TakesMemory}
 use Rattle.mr_carrying.proofs.Places.{stands, set_twice}
 use Rattle.mr_world.specs.declared.refusal.Refusal.{Refusal}
 use Rattle.mr_world.specs.declared.refusal.Refusal.TheVariants as refusal
@@ -71,7 +72,7 @@ module _ (w : WorldState) (n : ℕ) (now : ℤ) (x : Slot) (within : n < length 
             within_of : (xs : List Slot) (n : ℕ) → slice_get xs n ≡ Some t → n < length xs
             within_of xs n e = is_within xs n t e
 
-    pub carried : (y g : Slot) (links : List Link) (book : List Entry) (id : List ℕ) (offset : ℕ) → y ≡ get_or (slice_set w.slots n t) n y → g ≡ record y { file = filed outs y.file }
+    pub carried : (y g : Slot) (links : List Link) (book : List BookEntry) (id : List ℕ) (offset : ℕ) → y ≡ get_or (slice_set w.slots n t) n y → g ≡ record y { file = filed outs y.file }
         → links ≡ said_on outs.link y.dialled outs.reply (map (reached n outs) w.links) → book ≡ booked_as outs.used w.book id offset outs.grown
         → id ≡ x.node.core.lineage.id → offset ≡ x.node.core.lineage.stream.offset
         → Ticks w n now (record { slots = slice_set (slice_set w.slots n t) n g; links = links; book = book })
@@ -84,13 +85,13 @@ module _ (w : WorldState) (n : ℕ) (now : ℤ) (x : Slot) (within : n < length 
         ∙ ap (λ z. record { slots = slice_set w.slots n (record x { node = t.node; file = filed outs x.file }); links = said_on outs.link x.dialled outs.reply (map (reached n outs) w.links); book = z })
         (bs ∙ (ap (λ z. booked_as outs.used w.book z offset outs.grown) i ∙ ap (λ z. booked_as outs.used w.book x.node.core.lineage.id z outs.grown) o))))
 
-    pub failed : (y g z f : Slot) (links : List Link) (book : List Entry) → y ≡ get_or (slice_set w.slots n t) n y → g ≡ y → z ≡ get_or (slice_set (slice_set w.slots n t) n g) n z → f ≡ record z { node = stopped_as z.node }
+    pub failed : TakesMemory outs → (y g z f : Slot) (links : List Link) (book : List BookEntry) → y ≡ get_or (slice_set w.slots n t) n y → g ≡ y → z ≡ get_or (slice_set (slice_set w.slots n t) n g) n z → f ≡ record z { node = stopped_as z.node }
         → links ≡ w.links → book ≡ w.book
         → Ticks w n now (record { slots = slice_set (slice_set (slice_set w.slots n t) n g) n f; links = links; book = book })
-    failed y g z f links book again same third stops ls bs =
+    failed takes y g z f links book again same third stops ls bs =
         let one : g ≡ t = same ∙ read y again in
         let two : z ≡ t = read z (third ∙ ap (λ (q : List Slot). get_or q n z) (set_twice w.slots n t g ∙ ap (slice_set w.slots n) one)) in
-        Ticks.fails came (
+        Ticks.fails came takes (
         ap (λ q. record { slots = slice_set (slice_set (slice_set w.slots n t) n g) n f; links = q; book = book }) ls
         ∙ (ap (λ q. record { slots = slice_set (slice_set (slice_set w.slots n t) n g) n f; links = w.links; book = q }) bs
         ∙ ap (λ q. record { slots = q; links = w.links; book = w.book }) (set_twice (slice_set w.slots n t) n g f ∙ (set_twice w.slots n t f
@@ -99,7 +100,7 @@ module _ (w : WorldState) (n : ℕ) (now : ℤ) (x : Slot) (within : n < length 
 -- ---- what is true of each World stays
 pub tick_keeps : (w v : WorldState) (n : ℕ) (now : ℤ) (r : Result (Unit {0}) Refusal) → IsWorld w → TickCall w n now v r → IsWorld v
 tick_keeps w v n now (Ok done) is (Ticks.carries t e) = subst (λ (z : WorldState). IsWorld z) (sym e) (ticks_keep w n t.slot now t.node t.outs is t.running t.sound t.row)
-tick_keeps w v n now (Ok done) is (Ticks.fails t e) = subst (λ (z : WorldState). IsWorld z) (sym e) (stops_world w n t.slot (stopped_as t.node) is t.running.at refl)
+tick_keeps w v n now (Ok done) is (Ticks.fails t takes e) = subst (λ (z : WorldState). IsWorld z) (sym e) (stops_world w n t.slot (stopped_as t.node) is t.running.at refl)
 tick_keeps w v n now (Ok done) is (Ticks.rests d e) = subst (λ (z : WorldState). IsWorld z) (sym e) is
 tick_keeps w v n now (Err refusal.Nobody) is c = subst (λ (z : WorldState). IsWorld z) (sym c.1) is
 tick_keeps w v n now (Err refusal.Memory) is c = subst (λ (z : WorldState). IsWorld z) (sym c.1) is

@@ -1,7 +1,8 @@
 -- What each event of a World comes to. A refusal leaves the World as it is; the order in which causes stand is that of the cases.
-use Rattle.std.specs.Prelude.{◌≡◌, ◌≤◌, ◌+◌, ◌^◌, ℕ, List, [], Bool, true, false, None, Some, Result, Ok, Err, length, slice_get, slice_set}
+use Rattle.std.specs.Prelude.{◌≡◌, ◌≤◌, ◌+◌, ℕ, List, [], Bool, true, false, None, Some, Result, Ok, Err, length, slice_get, slice_set}
 use Rattle.std.specs.FinMap.{empty}
 use Rattle.mr_links.specs.declared.link_id.LinkId.{LinkId}
+use Rattle.mr_links.specs.Links.{links_limit}
 use Rattle.mr_rows.specs.State.{NodeState, stopped_as}
 use Rattle.mr_rows.specs.LinkRows.{Opens, closed_at}
 use Rattle.mr_seen.specs.Way.{sent_on, taken_on}
@@ -46,7 +47,7 @@ pub record Comes (w : WorldState) (n : ℕ) (v : WorldState) : Type 0 where
 pub record StopsAtClient (w : WorldState) (n : ℕ) (v : WorldState) : Type 0 where
   pub slot : Slot
   pub running : IsRunning w n slot
-  pub spent : 2 ^ 62 ≤ slot.node.ends.opened
+  pub spent : links_limit ≤ slot.node.ends.opened
   pub is : v ≡ put_node w n slot (stopped_as slot.node)
 
 pub data Clients (w : WorldState) (n : ℕ) (v : WorldState) : Type 0 where

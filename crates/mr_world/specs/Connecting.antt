@@ -1,6 +1,7 @@
 -- What comes of a node that dials another, or itself. As in `Calls`.
-use Rattle.std.specs.Prelude.{◌≡◌, ◌≤◌, ◌^◌, ℕ, true, false, Some, None, Result, Ok, Err, slice_get, slice_set}
+use Rattle.std.specs.Prelude.{◌≡◌, ◌≤◌, ℕ, true, false, Some, None, Result, Ok, Err, slice_get, slice_set}
 use Rattle.mr_links.specs.declared.link_id.LinkId.{LinkId}
+use Rattle.mr_links.specs.Links.{links_limit}
 use Rattle.mr_outs.specs.Outs.{OutsState}
 use Rattle.mr_rows.specs.State.{NodeState, stopped_as}
 use Rattle.mr_rows.specs.Sound.{IsSound}
@@ -48,7 +49,7 @@ pub record Connects (w : WorldState) (n m : ℕ) (v : WorldState) : Type 0 where
 pub record ServerStops (w : WorldState) (m : ℕ) (v : WorldState) : Type 0 where
   pub server : Slot
   pub running : IsRunning w m server
-  pub spent : 2 ^ 62 ≤ server.node.ends.opened
+  pub spent : links_limit ≤ server.node.ends.opened
   pub is : v ≡ put_node w m server (stopped_as server.node)
 
 -- m could open its end, but n, as it is behind that, has opened as many links as it may: n stops, and m has no end more
@@ -60,7 +61,7 @@ pub record DiallerStops (w : WorldState) (n m : ℕ) (v : WorldState) : Type 0 w
   pub opens : Opens server.node at served
   pub behind : Slot
   pub found : slice_get (slice_set w.slots m (record server { node = served })) n ≡ Some behind
-  pub spent : 2 ^ 62 ≤ behind.node.ends.opened
+  pub spent : links_limit ≤ behind.node.ends.opened
   pub dialler : Slot
   pub dialling : IsRunning w n dialler
   pub is : v ≡ put_node w n dialler (stopped_as dialler.node)

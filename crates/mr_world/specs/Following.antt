@@ -12,6 +12,7 @@ use Rattle.mr_rows.specs.UpstreamRows as master
 use Rattle.mr_seen.specs.State.{Link, Slot, WorldState}
 use Rattle.mr_seen.specs.Carrying.{followed, put_node}
 use Rattle.mr_carrying.specs.AtNode.{is_spent}
+use Rattle.mr_carrying.specs.Memory.{TakesMemory}
 use Rattle.mr_world.specs.declared.refusal.Refusal.{Refusal}
 use Rattle.mr_world.specs.declared.refusal.Refusal.TheVariants as refusal
 use Rattle.mr_world.specs.Linking.{FollowsBy, NoneFollows, FollowerRests}
@@ -67,11 +68,11 @@ pub record HasLacked (w : WorldState) (l : ℕ) (v : WorldState) : Type 0 where
   pub carried : v ≡ followed w number who.slot who.link node no_outs
   pub is : v ≡ put_node w number who.slot node
 
--- What it gives out is carried: its line is sent to its master, its file is what it is behind that, and the rest of the bytes is left. Or there is no memory
--- for that, and it stops. Where it is stopped, nothing happens.
+-- What it gives out is carried: its line is sent to its master, its file is what it is behind that, and the rest of the bytes is left. Or that takes memory,
+-- there is none, and it stops. Where it is stopped, nothing happens.
 pub data Follows (w : WorldState) (l : ℕ) (v : WorldState) : Type 0 where
   carries : (h : HasHeard w l) → v ≡ followed w h.number h.who.slot h.who.link h.node h.outs → Follows w l v
-  fails : (h : HasHeard w l) → v ≡ put_node w h.number h.who.slot (stopped_as h.node) → Follows w l v
+  fails : (h : HasHeard w l) → TakesMemory h.outs → v ≡ put_node w h.number h.who.slot (stopped_as h.node) → Follows w l v
   waits : HasWaited w l v → Follows w l v
   spends : HasSpent w l v → Follows w l v
   rests : FollowerRests w l → v ≡ w → Follows w l v

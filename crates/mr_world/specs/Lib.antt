@@ -10,3 +10,4 @@ pub mod Following
 pub mod Happening
 pub mod Connecting
 pub mod DialEvents
+pub mod Talking

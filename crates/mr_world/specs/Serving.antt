@@ -1,5 +1,5 @@
--- What a step comes to that a node makes at the server's end of a link. A refusal leaves the World as it is; where there is no memory for what the node
--- gave out, the node stops, and nothing else changes.
+-- What a step comes to that a node makes at the server's end of a link. A refusal leaves the World as it is; where what the node gave out takes memory,
+-- and there is none, the node stops, and nothing else changes.
 use Rattle.std.specs.Prelude.{◌≡◌, ℕ, List, Bool, true, false, Result, Ok, Err}
 use Rattle.mr_data.specs.declared.given.Given.{Given}
 use Rattle.mr_ends.specs.State.{Transaction}
@@ -17,6 +17,8 @@ use Rattle.mr_seen.specs.State.{Link, Slot, WorldState}
 use Rattle.mr_seen.specs.Carrying.{put_node, stepped}
 use Rattle.mr_seen.specs.Events.{IsServed}
 use Rattle.mr_carrying.specs.AtNode.{is_spent}
+use Rattle.mr_carrying.specs.Answering.{Carries}
+use Rattle.mr_carrying.specs.Memory.{TakesMemory}
 use Rattle.mr_world.specs.declared.refusal.Refusal.{Refusal}
 use Rattle.mr_world.specs.declared.refusal.Refusal.TheVariants as refusal
 use Rattle.mr_world.specs.Calls.{IsDown, NoneServes, ServesAt}
@@ -59,10 +61,15 @@ pub record HasSpent (w : WorldState) (l : ℕ) (given : Given) : Type 0 where
   pub node : NodeState
   pub spends : Spends link slot.node given node
 
--- what the node gave out is carried; or the node stops; or nothing whole is there; or the node spends its dataset; or it is stopped, and nothing happens
+-- What a node gave out at this link is carried, or that takes memory, and the node stops.
+pub record IsCarried (w : WorldState) (n l : ℕ) (id : List ℕ) (offset : ℕ) (outs : OutsState) (v : WorldState) : Type 0 where
+  pub carries : Carries w n l id offset outs v
+
+-- what the node gave out is carried; or that takes memory, and the node stops; or nothing whole is there; or the node spends its dataset; or it is stopped,
+-- and nothing happens
 pub data Serves (w : WorldState) (l : ℕ) (given : Given) (fresh : List ℕ) (v : WorldState) : Type 0 where
   carries : (t : HasServed w l given fresh) → v ≡ stepped w t.link.to t.slot l t.link t.node t.outs → Serves w l given fresh v
-  fails : (t : HasServed w l given fresh) → v ≡ put_node w t.link.to t.slot (stopped_as t.node) → Serves w l given fresh v
+  fails : (t : HasServed w l given fresh) → TakesMemory t.outs → v ≡ put_node w t.link.to t.slot (stopped_as t.node) → Serves w l given fresh v
   idles : (t : HasIdled w l) → v ≡ put_node w t.link.to t.slot t.node → Serves w l given fresh v
   spends : (t : HasSpent w l given) → v ≡ put_node w t.link.to t.slot t.node → Serves w l given fresh v
   rests : (k : Link) → ServesAt w l k → IsDown w k.to → v ≡ w → Serves w l given fresh v

@@ -1,5 +1,5 @@
--- What the events come to in which a node gives something out. A refusal leaves the World as it is; where there is no memory for what a node gave out,
--- the node stops, and nothing else changes.
+-- What the events come to in which a node gives something out. A refusal leaves the World as it is; where what a node gave out takes memory, and there is
+-- none, the node stops, and nothing else changes.
 use Rattle.std.specs.Prelude.{◌≡◌, ℕ, ℤ, None, Result, Ok, Err, slice_get}
 use Rattle.mr_outs.specs.Outs.{OutsState}
 use Rattle.mr_rows.specs.Sound.{IsSound}
@@ -8,6 +8,7 @@ use Rattle.mr_rows.specs.TimeRows.{TickRow}
 use Rattle.mr_seen.specs.State.{Slot, WorldState}
 use Rattle.mr_seen.specs.Carrying.{put_node, ticked}
 use Rattle.mr_seen.specs.Events.{IsRunning}
+use Rattle.mr_carrying.specs.Memory.{TakesMemory}
 use Rattle.mr_world.specs.declared.refusal.Refusal.{Refusal}
 use Rattle.mr_world.specs.declared.refusal.Refusal.TheVariants as refusal
 use Rattle.mr_world.specs.Calls.{IsDown, Runs}
@@ -21,10 +22,10 @@ pub record HasTicked (w : WorldState) (n : ℕ) (now : ℤ) : Type 0 where
   pub row : TickRow slot.node now node outs
   pub sound : IsSound node
 
--- what it gave out is carried; or the node stops; or the node is stopped, and nothing happens
+-- what it gave out is carried; or that takes memory, and the node stops; or the node is stopped, and nothing happens
 pub data Ticks (w : WorldState) (n : ℕ) (now : ℤ) (v : WorldState) : Type 0 where
   carries : (t : HasTicked w n now) → v ≡ ticked w n t.slot t.node t.outs → Ticks w n now v
-  fails : (t : HasTicked w n now) → v ≡ put_node w n t.slot (stopped_as t.node) → Ticks w n now v
+  fails : (t : HasTicked w n now) → TakesMemory t.outs → v ≡ put_node w n t.slot (stopped_as t.node) → Ticks w n now v
   rests : IsDown w n → v ≡ w → Ticks w n now v
 
 abbrev pub TickCall : WorldState → ℕ → ℤ → WorldState → Result (Unit {0}) Refusal → Type 0

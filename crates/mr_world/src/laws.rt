@@ -1,6 +1,7 @@
 //! What holds whatever happens to a World. No function here does anything: each is the law that it ensures.
 ghost use Rattle.mr_world.specs.Promises.{BookGrows, FilesAreDatasets, MomentsAreRuns, NodesAreTrue, NodesNeverDiffer, ReplicasAreLevel};
 ghost use Rattle.mr_world.specs.Happening.{FollowsAreEvents, LackedIsUnseen};
+ghost use Rattle.mr_world.specs.Talking.{LinksAreInOrder, TurnsUseTexts};
 
 /// **The headline.** After any lists of events, one run after another, whatever was refused: any two nodes that ever showed the same
 /// replication id and offset held the same dataset then.
@@ -28,8 +29,8 @@ pub fn replicas_are_level()
     ensures { ReplicasAreLevel }
 {}
 
-/// The file of each node that isn't stopped makes the node's dataset; and since it was last written anew, or the node started, it has grown by
-/// the texts of the groups that were applied, but for heartbeats.
+/// The file of each node that isn't stopped makes the node's dataset. Of the moments of the runs there is one at which it was written anew, or the
+/// node started; since then it has only grown, by the texts of the groups that were applied, but for heartbeats.
 pub fn files_are_datasets()
     ensures { FilesAreDatasets }
 {}
@@ -39,4 +40,11 @@ pub fn files_are_datasets()
 pub fn follows_are_events()
     ensures taken { FollowsAreEvents }
     ensures lacked { LackedIsUnseen }
+{}
+
+/// On each link that a node serves, until PSYNC is answered there, what is said in a run is what the run's steps there said, in order; and while
+/// the server's end is open, the bytes that it took are those that the steps used, in order, and behind them the unread ones. Each uses one text.
+pub fn links_are_in_order()
+    ensures order { LinksAreInOrder }
+    ensures texts { TurnsUseTexts }
 {}

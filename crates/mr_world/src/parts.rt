@@ -12,7 +12,7 @@ mod restarting;
 mod serving;
 
 use crate::refusal::Refusal;
-use mr_carrying::{Entry, Link, Slot, is_spent};
+use mr_carrying::{BookEntry, Link, Slot, is_spent};
 use mr_node::{Config, NodeFault};
 use mr_repl::ReplId;
 use std::alloc::Global;
@@ -24,7 +24,7 @@ use std::marker::Model;
 pub(crate) struct Parts {
     pub(crate) slots: Vec<Slot>,
     pub(crate) links: Vec<Link>,
-    pub(crate) book: Vec<Entry>,
+    pub(crate) book: Vec<BookEntry>,
 }
 
 impl Model for Parts {
@@ -72,7 +72,7 @@ impl Parts {
         if self.slots.push(slot).is_err() {
             return Err(Refusal::Memory);
         }
-        let Ok(()) = self.book.push(Entry::begun(alloc, id)) else {
+        let Ok(()) = self.book.push(BookEntry::begun(alloc, id)) else {
             unreachable!()
         };
         Ok(())

@@ -5,7 +5,7 @@ ghost use Rattle.mr_world.specs.Restarting.{RestartCall};
 
 use crate::parts::Parts;
 use crate::refusal::Refusal;
-use mr_carrying::{Entry, Link, Slot, is_spent};
+use mr_carrying::{BookEntry, Link, Slot, is_spent};
 use mr_node::Config;
 use mr_repl::ReplId;
 use std::alloc::Global;
@@ -50,7 +50,7 @@ impl Parts {
         let Ok(slot) = Slot::load(alloc, seed, kept, as_master, id, config) else {
             return Err(Refusal::Memory);
         };
-        let Ok(entry) = Entry::begun_with(alloc, id, slot.file()) else {
+        let Ok(entry) = BookEntry::begun_with(alloc, id, slot.file()) else {
             return Err(Refusal::Memory);
         };
         if self.book.push(entry).is_err() {

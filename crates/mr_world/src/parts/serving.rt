@@ -3,8 +3,8 @@ ghost use Rattle.std.specs.Prelude.{◌≡◌, ◌<◌, Some, false, length, sli
 ghost use Rattle.mr_seen.specs.State.{Link as LinkState, Slot as SlotState};
 ghost use Rattle.mr_seen.specs.Worlds.{IsWorld};
 ghost use Rattle.mr_carrying.specs.AtNode.{is_spent};
-ghost use Rattle.mr_carrying.specs.Answering.{Carries, IsBehind, IsServing};
-ghost use Rattle.mr_world.specs.Serving.{StepCall};
+ghost use Rattle.mr_carrying.specs.Answering.{IsBehind, IsServing};
+ghost use Rattle.mr_world.specs.Serving.{IsCarried, StepCall};
 
 use crate::parts::Parts;
 use crate::refusal::Refusal;
@@ -91,7 +91,7 @@ impl Parts {
         requires node { n < length self.old.slots }
         requires link { l < length self.old.links }
         requires behind { (s : SlotState) (k : LinkState) → slice_get self.old.slots n ≡ Some s → slice_get self.old.links l ≡ Some k → IsBehind s.node k.name outs.now }
-        ensures { Carries self.old n l id offset outs.now self.new }
+        ensures { IsCarried self.old n l id offset outs.now self.new }
     {
         let carried = give_step(
             alloc,

@@ -1,7 +1,9 @@
-use Rattle.std.proofs.Common.{rules, ◌≡◌, ◌∙◌, ap, length, map}
+use Rattle.std.proofs.Common.{rules, ◌≡◌, ◌≢◌, ◌∙◌, [], sym, ap, length, map}
 use Rattle.std.specs.Prelude.{slice_set}
 use Rattle.mr_seen.specs.State.{Slot}
 use Rattle.mr_seen.specs.Carrying.{filed, reached, told}
+use Rattle.mr_carrying.specs.Memory.{TakesMemory}
+use Rattle.mr_carrying.proofs.Lacking.{where_err}
 use Rattle.mr_carrying.proofs.Answered.{answered_there, behind_told, untold_there}
 use Rattle.mr_carrying.proofs.carry.give_step.Goals as goal
 
@@ -30,3 +32,11 @@ returns-clause-links c =
     answered_there c.args.n c.args.l c.args.outs.now c.args.links.now.items c.give.new.links.items c.index_mut.result.now c.tell.new.self c.index_mut-2.result.now
     c.requires.link c.index_mut.ensures.value (said ∙ ap (λ z. told z c.index_mut.result.now) c.reply.ensures) c.index_mut-2.ensures.value
     c.args.slot.now.node c.requires.behind gave c.give.new.slot.node c.settle.new.link (ap (λ (z : Slot). z.node) slot) c.settle.ensures
+
+pub returns-then-is_err-clause-memory : goal.returns-then-is_err-clause-memory
+returns-then-is_err-clause-memory c =
+    let some : c.reply.result.now ≢ [] = search rules in
+    TakesMemory.says (λ none. some (c.reply.ensures ∙ none))
+
+pub returns-then-is_err-2-clause-memory : goal.returns-then-is_err-2-clause-memory
+returns-then-is_err-2-clause-memory c = where_err c.give.result _ (sym c.is_err-2.ensures.value ∙ c.if-is_err-2.true) c.give.ensures.memory

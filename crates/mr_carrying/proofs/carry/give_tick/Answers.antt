@@ -1,5 +1,7 @@
-use Rattle.std.proofs.Common.{rules, ◌≡◌, ◌∙◌, ap, map, length}
+use Rattle.std.proofs.Common.{rules, ◌≡◌, ◌≢◌, ◌∙◌, [], sym, ap, map, length}
 use Rattle.mr_seen.specs.Carrying.{reached, said_on}
+use Rattle.mr_carrying.specs.Memory.{TakesMemory}
+use Rattle.mr_carrying.proofs.Lacking.{where_err}
 use Rattle.mr_carrying.specs.Undoing.{unsaid_on}
 use Rattle.mr_carrying.proofs.Undone.{reach_said, unsaid_said}
 use Rattle.mr_carrying.proofs.carry.give_tick.Goals as goal
@@ -16,3 +18,11 @@ returns-clause-links c =
     let given : c.give.new.links.items ≡ map (reached c.args.n c.args.outs.now) c.say_in.new.links.items = search rules in
     given ∙ (ap (map (reached c.args.n c.args.outs.now)) said ∙ (reach_said c.args.n c.args.outs.now c.args.outs.now.link c.dialled-l.result c.args.outs.now.reply c.args.links.now.items
     ∙ ap (λ l. said_on c.args.outs.now.link l c.args.outs.now.reply (map (reached c.args.n c.args.outs.now) c.args.links.now.items)) c.dialled-l.ensures))
+
+pub returns-then-is_err-clause-memory : goal.returns-then-is_err-clause-memory
+returns-then-is_err-clause-memory c =
+    let some : c.args.outs.now.reply ≢ [] = search rules in
+    TakesMemory.says some
+
+pub returns-then-is_err-2-clause-memory : goal.returns-then-is_err-2-clause-memory
+returns-then-is_err-2-clause-memory c = where_err c.give.result _ (sym c.is_err-2.ensures.value ∙ c.if-is_err-2.true) c.give.ensures.memory

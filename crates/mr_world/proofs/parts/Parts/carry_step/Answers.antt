@@ -1,9 +1,12 @@
-use Rattle.std.proofs.Common.{rules, ◌≡◌, ◌<◌, inl, inr, ◌∙◌, Some, length, sym, ap, subst}
+use Rattle.std.proofs.Common.{rules, ◌≡◌, ◌<◌, inl, inr, ◌∙◌, not, Some, length, sym, ap, subst}
 use Rattle.std.specs.Prelude.{slice_get, slice_set}
 use Rattle.mr_seen.specs.State.{Link, WorldState}
 use Rattle.mr_seen.specs.Carrying.{booked_as, filed}
-use Rattle.mr_carrying.specs.Answering.{Carries, answered_links}
+use Rattle.mr_carrying.specs.Answering.{answered_links}
+use Rattle.mr_carrying.specs.Memory.{TakesMemory}
 use Rattle.mr_carrying.proofs.Places.{stands}
+use Rattle.mr_world.specs.Serving.{IsCarried}
+use Rattle.mr_world.proofs.Lacking.{where_err}
 use Rattle.mr_world.proofs.Servings.{carries_here, stops_here}
 use Rattle.mr_world.proofs.parts.Parts.carry_step.Goals as goal
 
@@ -21,10 +24,12 @@ returns-then-is_ok c =
     let slot : c.give_step-carried.new.slot ≡ record c.index_mut.result.now { file = filed c.args.outs.now c.index_mut.result.now.file } = search rules in
     let links : (k : Link) → slice_get c.self.inside.links.items c.args.l ≡ Some k → c.give_step-carried.new.links.items ≡ answered_links c.args.n c.args.l k c.index_mut.result.now.node c.args.outs.now c.self.inside.links.items = search rules in
     let book : c.give_step-carried.new.book.items ≡ booked_as c.args.outs.now.used c.self.inside.book.items c.args.id c.args.offset c.args.outs.now.grown = search rules in
-    subst (λ (z : WorldState). Carries z c.args.n c.args.l c.args.id c.args.offset c.args.outs.now
+    subst (λ (z : WorldState). IsCarried z c.args.n c.args.l c.args.id c.args.offset c.args.outs.now
     (record { slots = slice_set c.self.inside.slots.items c.args.n c.give_step-carried.new.slot; links = c.give_step-carried.new.links.items; book = c.give_step-carried.new.book.items })) c.self.view_is
-    (λ s k at found. inl (carries_here w c.args.n c.args.l s c.index_mut.result.now k within c.index_mut.ensures.value at found
-    c.args.id c.args.offset c.args.outs.now c.give_step-carried.new.slot c.give_step-carried.new.links.items c.give_step-carried.new.book.items slot links book))
+    (record {
+      carries = λ s k at found. inl (carries_here w c.args.n c.args.l s c.index_mut.result.now k within c.index_mut.ensures.value at found
+          c.args.id c.args.offset c.args.outs.now c.give_step-carried.new.slot c.give_step-carried.new.links.items c.give_step-carried.new.book.items slot links book);
+    })
 
 pub returns : goal.returns
 returns c =
@@ -33,7 +38,13 @@ returns c =
     let slot : c.give_step-carried.new.slot ≡ c.index_mut.result.now = search rules in
     let links : c.give_step-carried.new.links.items ≡ c.self.inside.links.items = search rules in
     let book : c.give_step-carried.new.book.items ≡ c.self.inside.book.items = search rules in
-    subst (λ (z : WorldState). Carries z c.args.n c.args.l c.args.id c.args.offset c.args.outs.now
+    let takes : TakesMemory c.args.outs.now = where_err c.give_step-carried.result (TakesMemory c.args.outs.now) (c.is_ok.ensures.negation ∙ ap not c.if-is_ok.false) c.give_step-carried.ensures.memory in
+    subst (λ (z : WorldState). IsCarried z c.args.n c.args.l c.args.id c.args.offset c.args.outs.now
     (record { slots = slice_set (slice_set c.self.inside.slots.items c.args.n c.give_step-carried.new.slot) c.args.n c.fail.new.self; links = c.give_step-carried.new.links.items; book = c.give_step-carried.new.book.items })) c.self.view_is
-    (λ s k at found. inr (stops_here w c.args.n c.args.l s c.index_mut.result.now k within c.index_mut.ensures.value at found
-    c.give_step-carried.new.slot c.index_mut-2.result.now c.fail.new.self c.give_step-carried.new.links.items c.give_step-carried.new.book.items slot c.index_mut-2.ensures.value c.fail.ensures links book))
+    (record {
+      carries = λ s k at found. inr (
+        takes,
+        stops_here w c.args.n c.args.l s c.index_mut.result.now k within c.index_mut.ensures.value at found
+            c.give_step-carried.new.slot c.index_mut-2.result.now c.fail.new.self c.give_step-carried.new.links.items c.give_step-carried.new.book.items slot c.index_mut-2.ensures.value c.fail.ensures links book,
+      );
+    })

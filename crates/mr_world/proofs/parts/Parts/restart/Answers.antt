@@ -1,6 +1,6 @@
 use Rattle.std.proofs.Common.{rules, ◌≡◌, ◌<◌, ◌++◌, ◌∷◌, [], ◌∙◌, false, length, not, ap, refl, subst}
 use Rattle.std.specs.Prelude.{slice_set}
-use Rattle.mr_seen.specs.State.{Entry, WorldState}
+use Rattle.mr_seen.specs.State.{BookEntry, WorldState}
 use Rattle.mr_carrying.specs.AtNode.{is_spent, IsLoaded}
 use Rattle.mr_world.specs.Restarting.{IsThere, Restarts}
 use Rattle.mr_world.proofs.Restarts.{restarts_here, there_is}
@@ -44,5 +44,5 @@ returns c =
       subst (λ (z : WorldState). Restarts z c.args.n c.args.kept.now c.args.id c.args.config.port c.args.config.backlog
           (record { slots = slice_set c.self.inside.slots.items c.args.n c.in-Ok.slot; links = c.shut_ends_in.new.links.items; book = c.push.new.self.items })) c.self.view_is
           (restarts_here w c.args.n c.index.result.now within c.index.ensures c.args.kept.now c.args.id c.args.config.port c.args.config.backlog c.in-Ok.slot c.shut_ends_in.new.links.items c.push.new.self.items
-          loaded c.shut_ends_in.ensures (pushed ∙ ap (λ (z : Entry). c.self.inside.book.items ++ z ∷ []) entry)),
+          loaded c.shut_ends_in.ensures (pushed ∙ ap (λ (z : BookEntry). c.self.inside.book.items ++ z ∷ []) entry)),
     )

@@ -2,8 +2,8 @@ use Rattle.std.proofs.Common.{rules, ◌∙◌, Ok, Err, sym, ap, subst}
 use Rattle.std.specs.Prelude.{slice_set}
 use Rattle.mr_seen.specs.State.{WorldState}
 use Rattle.mr_seen.specs.Worlds.{IsWorld}
-use Rattle.mr_carrying.specs.Answering.{Carries, IsServing}
-use Rattle.mr_world.specs.Serving.{NeedsMemory, Serves}
+use Rattle.mr_carrying.specs.Answering.{IsServing}
+use Rattle.mr_world.specs.Serving.{IsCarried, NeedsMemory, Serves}
 use Rattle.mr_world.proofs.Servings.{behind_there, carries_there, idles_there, lacks_there, never_absent, never_closed, never_full, spends_there}
 use Rattle.mr_world.proofs.parts.Parts.step_at.Goals as goal
 
@@ -44,11 +44,11 @@ returns-in-Ok-Done c =
     let w : WorldState = record { slots = c.self.inside.slots.items; links = c.self.inside.links.items; book = c.self.inside.book.items } in
     let world : IsWorld w = subst (λ (z : WorldState). IsWorld z) (sym c.self.view_is) c.requires.world in
     let serving : IsServing w c.args.l c.args.n c.args.name = subst (λ (z : WorldState). IsServing z c.args.l c.args.n c.args.name) (sym c.self.view_is) c.requires.serving in
-    let carries : Carries (record w { slots = slice_set w.slots c.args.n c.step.new.self }) c.args.n c.args.l c.in-Some.id c.in-Some.offset c.in-Ok-Done.outs c.carry_step.new.self = search rules in (
+    let carried : IsCarried (record w { slots = slice_set w.slots c.args.n c.step.new.self }) c.args.n c.args.l c.in-Some.id c.in-Some.offset c.in-Ok-Done.outs c.carry_step.new.self = search rules in (
       c.requires.unspent,
       subst (λ (z : WorldState). Serves z c.args.l c.args.given c.args.fresh c.carry_step.new.self) c.self.view_is
           (carries_there w c.args.l c.args.n c.args.name c.args.given c.args.fresh world serving c.index_mut.result.now c.index_mut.ensures.value c.step.new.self c.step.result c.step.ensures.row c.step.ensures.rest
-          c.in-Ok-Done.outs (c.in-Ok-Done.is ∙ ap Ok c.in-Ok-Done.field-0-is) c.step.ensures.sound c.in-Some.id c.in-Some.offset c.index.result.now c.carry_step.new.self c.index.ensures (sym c.shows.ensures ∙ c.in-Some.is) carries),
+          c.in-Ok-Done.outs (c.in-Ok-Done.is ∙ ap Ok c.in-Ok-Done.field-0-is) c.step.ensures.sound c.in-Some.id c.in-Some.offset c.index.result.now c.carry_step.new.self c.index.ensures (sym c.shows.ensures ∙ c.in-Some.is) carried.carries),
     )
 
 pub returns-in-Ok-Idle : goal.returns-in-Ok-Idle

@@ -1,4 +1,4 @@
-use Rattle.std.proofs.Common.{rules, ◌≡◌, ◌<◌, ◌∙◌, Ok, Err, false, length, refl, sym, ap, subst}
+use Rattle.std.proofs.Common.{rules, ◌≡◌, ◌<◌, ◌∙◌, Ok, Err, OnErr, false, length, refl, sym, ap, subst}
 use Rattle.std.specs.Prelude.{slice_set}
 use Rattle.mr_node.specs.Steps.{MasterStep}
 use Rattle.mr_seen.specs.State.{WorldState}
@@ -6,10 +6,12 @@ use Rattle.mr_seen.specs.Worlds.{IsWorld}
 use Rattle.mr_seen.specs.Carrying.{filed}
 use Rattle.mr_carrying.specs.AtNode.{is_spent}
 use Rattle.mr_carrying.specs.AtLink.{heard_by}
+use Rattle.mr_carrying.specs.Memory.{TakesMemory}
 use Rattle.mr_world.specs.Following.{Follows, HasLacked, IsFollower}
 use Rattle.mr_world.specs.Linking.{IsDialler}
 use Rattle.mr_world.proofs.Dialling.{rests_here, slot_within}
 use Rattle.mr_world.proofs.Heard.{carried, comes_to, failed, follower_here, lacks_here, spends_here, waits_here}
+use Rattle.mr_world.proofs.Lacking.{where_err}
 use Rattle.mr_world.proofs.Joins.{put_same}
 use Rattle.mr_world.proofs.parts.Parts.step_dialler.Goals as goal
 
@@ -48,10 +50,12 @@ returns-then-is_err c =
     (comes_to w c.args.l c.in-Some.n c.in-Some.name world who c.index_mut.result.now c.step.new.self c.index_mut.ensures.value c.step.ensures.rest c.args.given c.args.fresh c.step.result c.step.ensures.row) in
     let slot : c.give_heard-heard.new.slot ≡ c.index_mut-in-Ok-Done.result.now = search rules in
     let link : c.give_heard-heard.new.link ≡ c.index_mut-in-Ok-Done-2.result.now = search rules in
+    let told : OnErr c.give_heard-heard.result (TakesMemory c.in-Ok-Done.outs) = search rules in
+    let takes : TakesMemory c.in-Ok-Done.outs = where_err c.give_heard-heard.result (TakesMemory c.in-Ok-Done.outs) (sym c.is_err.ensures.value ∙ c.if-is_err.true) told in
     let links : slice_set c.self.inside.links.items c.args.l c.give_heard-heard.new.link ≡ c.self.inside.links.items = put_same c.self.inside.links.items c.args.l c.index_mut-in-Ok-Done-2.result.now c.give_heard-heard.new.link c.index_mut-in-Ok-Done-2.ensures.value link in (
       fresh,
       subst (λ (z : WorldState). Follows z c.args.l (record w { slots = slice_set (slice_set (slice_set w.slots c.in-Some.n c.step.new.self) c.in-Some.n c.give_heard-heard.new.slot) c.in-Some.n c.fail.new.self; links = slice_set w.links c.args.l c.give_heard-heard.new.link })) c.self.view_is
-          (failed w c.args.l c.in-Some.n c.in-Some.name world who c.index_mut.result.now c.step.new.self c.index_mut.ensures.value c.step.ensures.rest row.0 row.1 c.in-Ok-Done.outs row.2 c.step.ensures.sound
+          (failed w c.args.l c.in-Some.n c.in-Some.name world who c.index_mut.result.now c.step.new.self c.index_mut.ensures.value c.step.ensures.rest row.0 row.1 c.in-Ok-Done.outs row.2 c.step.ensures.sound takes
           c.index_mut-in-Ok-Done.result.now c.give_heard-heard.new.slot c.index_mut-then-is_err.result.now c.fail.new.self (slice_set w.links c.args.l c.give_heard-heard.new.link)
           c.index_mut-in-Ok-Done.ensures.value slot c.index_mut-then-is_err.ensures.value c.fail.ensures links),
     )

@@ -3,6 +3,7 @@ use Rattle.std.specs.Prelude.{slice_set}
 use Rattle.mr_seen.specs.State.{Slot, WorldState}
 use Rattle.mr_seen.specs.Carrying.{booked_as, filed, reached, said_on}
 use Rattle.mr_node.specs.Calls.{TickStep}
+use Rattle.mr_carrying.specs.Memory.{TakesMemory}
 use Rattle.mr_world.specs.Calls.{Runs}
 use Rattle.mr_world.specs.Stepping.{Ticks}
 use Rattle.mr_world.proofs.Joins.{read_twice}
@@ -22,8 +23,9 @@ returns-then-is_err c =
     let slot : c.give_tick-carried.new.slot ≡ c.index_mut-in-Ok.result.now = search rules in
     let links : c.give_tick-carried.new.links.items ≡ c.self.inside.links.items = search rules in
     let book : c.give_tick-carried.new.book.items ≡ c.self.inside.book.items = search rules in
+    let takes : TakesMemory c.in-Ok.outs = search rules in
     subst (λ (z : WorldState). Ticks z c.args.n c.args.given.now (record { slots = slice_set (slice_set (slice_set c.self.inside.slots.items c.args.n c.tick.new.self) c.args.n c.give_tick-carried.new.slot) c.args.n c.fail.new.self; links = c.give_tick-carried.new.links.items; book = c.give_tick-carried.new.book.items })) c.self.view_is
-    (failed w c.args.n c.args.given.now c.index_mut.result.now within c.index_mut.ensures.value c.tick.new.self c.tick.ensures.rest c.in-Ok.outs c.in-Ok.ensures.row c.tick.ensures.sound
+    (failed w c.args.n c.args.given.now c.index_mut.result.now within c.index_mut.ensures.value c.tick.new.self c.tick.ensures.rest c.in-Ok.outs c.in-Ok.ensures.row c.tick.ensures.sound takes
     c.index_mut-in-Ok.result.now c.give_tick-carried.new.slot c.index_mut-then-is_err.result.now c.fail.new.self c.give_tick-carried.new.links.items c.give_tick-carried.new.book.items
     c.index_mut-in-Ok.ensures.value slot c.index_mut-then-is_err.ensures.value c.fail.ensures links book)
 
