@@ -4,11 +4,11 @@ use Rattle.std.specs.Prelude.{OnOk, OnErr}
 use Rattle.mr_script.specs.Answers.{answer_line}
 use Rattle.mr_script.specs.Lines.{LineSays}
 use Rattle.mr_script.specs.Said.{Said}
-use Rattle.mr_script.specs.declared.answer.Answer.{Answer}
+use Rattle.mr_script.specs.declared.answer.ScriptAnswer.{ScriptAnswer}
 use Rattle.mr_seen.specs.State.{WorldState}
 use Rattle.mr_player.specs.Playing.{Adds, Answers, Lacks, Plays}
 
-module _ (size : ℕ) (w : WorldState) (text : List ℕ) (v : WorldState) (old new : List ℕ) (said : Said) (answer : Answer) (says : LineSays text said) (plays : Plays size w said v answer) where
+module _ (size : ℕ) (w : WorldState) (text : List ℕ) (v : WorldState) (old new : List ℕ) (said : Said) (answer : ScriptAnswer) (says : LineSays text said) (plays : Plays size w said v answer) where
   answers : Answers size w text v (answer_line answer)
   answers = Answers.plays said says answer plays refl
 

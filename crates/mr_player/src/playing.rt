@@ -5,7 +5,7 @@ ghost use Rattle.mr_player.specs.Playing.{Adds, Lacks};
 
 use crate::asked::{Asked, asked_by};
 use crate::telling::{got, happen, shown};
-use mr_script::{Answer, Line};
+use mr_script::{Line, ScriptAnswer};
 use mr_world::World;
 use std::alloc::{AllocError, Global};
 
@@ -24,7 +24,7 @@ pub fn play(
     ensures err { OnErr result (Lacks backlog world.old text.now world.new out.old.items out.new.items) }
 {
     let Some(line) = Line::read(alloc, text)? else {
-        return Answer::Bad.write(out);
+        return ScriptAnswer::Bad.write(out);
     };
     match asked_by(alloc, world, backlog, line)? {
         Asked::Nothing => Ok(()),

@@ -2,7 +2,7 @@
 ghost use Rattle.std.specs.Prelude.{◌≡◌, slice_get};
 ghost use Rattle.mr_player.specs.Telling.{cause_number, Happens, got_at, link_answer, shown_at, taken_answer};
 
-use mr_script::Answer;
+use mr_script::ScriptAnswer;
 use mr_world::{Event, Refusal, Side, World};
 
 /// The number of the cause for which an event is refused.
@@ -19,29 +19,29 @@ fn number_of(refusal: Refusal) -> u8
 }
 
 /// What an event is answered by which a link comes, or nothing happens.
-fn joined(links: usize, links_now: usize) -> Answer<'static>
+fn joined(links: usize, links_now: usize) -> ScriptAnswer<'static>
     ensures { result ≡ link_answer links links_now }
 {
     if links < links_now {
-        Answer::Link(links)
+        ScriptAnswer::Link(links)
     } else {
-        Answer::Done
+        ScriptAnswer::Done
     }
 }
 
 /// What an event is answered that was taken, where there were so many nodes and links before, and so many links since.
-fn taken(event: &Event, nodes: usize, links: usize, links_now: usize) -> Answer<'static>
+fn taken(event: &Event, nodes: usize, links: usize, links_now: usize) -> ScriptAnswer<'static>
     ensures { result ≡ taken_answer event.now nodes links links_now }
 {
     match event {
-        Event::Start { id: _, config: _ } => Answer::Node(nodes),
+        Event::Start { id: _, config: _ } => ScriptAnswer::Node(nodes),
         Event::Client { node: _ } | Event::Dial { node: _, to: _ } => joined(links, links_now),
-        _ => Answer::Done,
+        _ => ScriptAnswer::Done,
     }
 }
 
 /// An event happens: what it is answered.
-pub(crate) fn happen(world: &mut World, event: Event) -> Answer<'static>
+pub(crate) fn happen(world: &mut World, event: Event) -> ScriptAnswer<'static>
     ensures { Happens world.old event world.new result }
 {
     let nodes = world.nodes();
@@ -49,32 +49,32 @@ pub(crate) fn happen(world: &mut World, event: Event) -> Answer<'static>
     let events = [event];
     match world.run(events.as_slice()) {
         Ok(()) => taken(&events[0], nodes, links, world.links()),
-        Err((_number, refusal)) => Answer::Refused(number_of(refusal)),
+        Err((_number, refusal)) => ScriptAnswer::Refused(number_of(refusal)),
     }
 }
 
 /// What a node shows.
-pub(crate) fn shown(world: &World, node: usize) -> Answer<'static>
+pub(crate) fn shown(world: &World, node: usize) -> ScriptAnswer<'static>
     ensures { result ≡ shown_at node (slice_get world.now.slots node) }
 {
     let Some(found) = world.node(node) else {
-        return Answer::Refused(2);
+        return ScriptAnswer::Refused(2);
     };
     match found.shows() {
-        Some((id, offset)) => Answer::Shows { node, id, offset },
-        None => Answer::Stopped { node },
+        Some((id, offset)) => ScriptAnswer::Shows { node, id, offset },
+        None => ScriptAnswer::Stopped { node },
     }
 }
 
 /// What the client of a link took.
-pub(crate) fn got(world: &World, link: usize) -> Answer<'_>
+pub(crate) fn got(world: &World, link: usize) -> ScriptAnswer<'_>
     ensures { got_at (slice_get world.now.links link) result }
 {
     if world.is_between_nodes(link) {
-        return Answer::Refused(2);
+        return ScriptAnswer::Refused(2);
     }
     match world.took(link, Side::Opener) {
-        Some(bytes) => Answer::Bytes(bytes),
-        None => Answer::Refused(2),
+        Some(bytes) => ScriptAnswer::Bytes(bytes),
+        None => ScriptAnswer::Refused(2),
     }
 }

@@ -12,8 +12,8 @@ use Rattle.mr_repl.specs.ReplId.{IsId, digits_of, is_lower_digit}
 use Rattle.mr_repl.proofs.IdTexts.{texts_are_forty}
 use Rattle.mr_bytes.proofs.Numbers.{first}
 use Rattle.mr_script.specs.Answers.{answer_text, is_plain, is_printable, IsAnswer, numbered, printed, printed_byte}
-use Rattle.mr_script.specs.declared.answer.Answer.{Answer}
-use Rattle.mr_script.specs.declared.answer.Answer.TheVariants.{Node, Link, Done, Refused, Bad, Shows, Stopped, Bytes}
+use Rattle.mr_script.specs.declared.answer.ScriptAnswer.{ScriptAnswer}
+use Rattle.mr_script.specs.declared.answer.ScriptAnswer.TheVariants.{Node, Link, Done, Refused, Bad, Shows, Stopped, Bytes}
 
 abbrev IsShown : ℕ → Type 0
 IsShown b = is_printable b ≡ true
@@ -79,7 +79,7 @@ text_printable text h = AllPass-from_list_all is_printable text h
 numbered_printable : (word : List ℕ) (n : ℕ) → list_all is_printable word ≡ true → n < 2 ^ 64 → AllPass is_printable (numbered word n)
 numbered_printable word n h small = both word (32 ∷ decimal n) (text_printable word h) (both (32 ∷ []) (decimal n) (text_printable (32 ∷ []) refl) (decimal_printable n small))
 
-pub answer_printable : (answer : Answer) → IsAnswer answer → AllPass is_printable (answer_text answer)
+pub answer_printable : (answer : ScriptAnswer) → IsAnswer answer → AllPass is_printable (answer_text answer)
 answer_printable (Node n) h = numbered_printable (codes "node") n refl h
 answer_printable (Link l) h = numbered_printable (codes "link") l refl h
 answer_printable Done h = text_printable (codes "ok") refl

@@ -5,7 +5,7 @@ use Rattle.std.specs.Fmt.{signed_decimal}
 use Rattle.std.specs.Str.{bytes_eq}
 use Rattle.std.proofs.lemmas.Bool.{lt-ltb}
 use Rattle.std.proofs.lemmas.Int.{ints}
-use Rattle.mr_data.specs.Given.{IsMoment}
+use Rattle.mr_data.specs.Given.{IsMoment, last_moment}
 use Rattle.mr_bytes.specs.Number.{is_i64, number_of}
 use Rattle.mr_bytes.proofs.Numbers.{first, second, number_of-signed_decimal, number_text, same_bytes}
 use Rattle.mr_script.specs.Said.{Said, nothing, starts, joins, sends, delivers, steps, ticks, breaks, dials, restarts, shows, gets, NamesId, Says, SaysSend, request, text}
@@ -24,13 +24,13 @@ by_no : (b : Bool) → (b ≡ false → ⊥) → b ≡ true
 by_no true h = refl
 by_no false h = absurd (h refl)
 
-moment_passes : (now : ℤ) → IsMoment now → (int_le (pos 0) now ≡ true) × (int_le now (pos (2 ^ 61)) ≡ true) × IsTrue (is_i64 now)
+moment_passes : (now : ℤ) → IsMoment now → (int_le (pos 0) now ≡ true) × (int_le now (pos last_moment) ≡ true) × IsTrue (is_i64 now)
 moment_passes (pos n) h =
-    let high : n ≤ 2 ^ 61 = omega (arith, ints, h.1) in
+    let high : n ≤ last_moment = omega (arith, ints, h.1) in
     (by_no _ (λ e. omega (arith, ints, e)), by_no _ (λ e. omega (arith, ints, e)), lt-ltb n (2 ^ 63) (omega arith))
 moment_passes (negsuc n) h = absurd h.0.le
 
-passes_moment : (now : ℤ) → int_le (pos 0) now ≡ true → int_le now (pos (2 ^ 61)) ≡ true → IsMoment now
+passes_moment : (now : ℤ) → int_le (pos 0) now ≡ true → int_le now (pos last_moment) ≡ true → IsMoment now
 passes_moment now low high = (omega (arith, ints), omega (arith, ints))
 
 moment_of-signed_decimal : (now : ℤ) → IsMoment now → moment_of (signed_decimal now) ≡ Some now
@@ -106,7 +106,7 @@ with_side word f P h = elim (side_of word) as (λ o. side_of word ≡ o → IfSo
 moment_is : (word : List ℕ) (now : ℤ) → moment_of word ≡ Some now → IsMoment now × (word ≡ signed_decimal now)
 moment_is word now h = elim (number_of word) as (λ o. number_of word ≡ o → with o moment_if ≡ Some now → IsMoment now × (word ≡ signed_decimal now)) [
   | None ↦ λ e t. cc
-  | Some n ↦ λ e t. elim (int_le (pos 0) n && int_le n (pos (2 ^ 61))) as (λ b. int_le (pos 0) n && int_le n (pos (2 ^ 61)) ≡ b → cond b (Some n) None ≡ Some now → IsMoment now × (word ≡ signed_decimal now)) [
+  | Some n ↦ λ e t. elim (int_le (pos 0) n && int_le n (pos last_moment)) as (λ b. int_le (pos 0) n && int_le n (pos last_moment) ≡ b → cond b (Some n) None ≡ Some now → IsMoment now × (word ≡ signed_decimal now)) [
     | true ↦ λ p s. let same : n ≡ now = cc in
         (subst IsMoment same (passes_moment n (first _ _ p) (second _ _ p)), (number_text word n e).0 ∙ ap signed_decimal same)
     | false ↦ λ p s. cc

@@ -5,8 +5,8 @@ use Rattle.std.specs.List.{flat_map}
 use Rattle.hex.specs.Hex.{encode_lower}
 use Rattle.mr_inline.specs.Bytes.{backslash, letter_x, line_feed}
 use Rattle.mr_repl.specs.ReplId.{IsId, digits_of}
-use Rattle.mr_script.specs.declared.answer.Answer.{Answer}
-use Rattle.mr_script.specs.declared.answer.Answer.TheVariants.{Node, Link, Done, Refused, Bad, Shows, Stopped, Bytes}
+use Rattle.mr_script.specs.declared.answer.ScriptAnswer.{ScriptAnswer}
+use Rattle.mr_script.specs.declared.answer.ScriptAnswer.TheVariants.{Node, Link, Done, Refused, Bad, Shows, Stopped, Bytes}
 
 -- from a space to a tilde
 abbrev pub is_printable : ℕ → Bool
@@ -31,7 +31,7 @@ numbered word n = word ++ 32 ∷ decimal n
 abbrev pub state_text : ℕ → List ℕ → ℕ → List ℕ
 state_text n id offset = decimal n ++ 32 ∷ (digits_of id ++ 32 ∷ decimal offset)
 
-abbrev pub answer_text : Answer → List ℕ
+abbrev pub answer_text : ScriptAnswer → List ℕ
 answer_text (Node n) = numbered (codes "node") n
 answer_text (Link l) = numbered (codes "link") l
 answer_text Done = codes "ok"
@@ -42,7 +42,7 @@ answer_text (Stopped n) = decimal n ++ codes " stopped"
 answer_text (Bytes bytes) = printed bytes.now
 
 -- what is true of each answer
-abbrev pub IsAnswer : Answer → Type 0
+abbrev pub IsAnswer : ScriptAnswer → Type 0
 IsAnswer (Node n) = n < 2 ^ 64
 IsAnswer (Link l) = l < 2 ^ 64
 IsAnswer Done = Unit {0}
@@ -53,5 +53,5 @@ IsAnswer (Stopped n) = n < 2 ^ 64
 IsAnswer (Bytes bytes) = All (λ b. b < 256) bytes.now
 
 -- the answer on a line of its own
-unfoldable pub answer_line : Answer → List ℕ
+unfoldable pub answer_line : ScriptAnswer → List ℕ
 answer_line answer = answer_text answer ++ line_feed ∷ []

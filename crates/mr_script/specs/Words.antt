@@ -3,6 +3,7 @@ use Rattle.std.specs.Prelude.{ℕ, ℤ, pos, ◌^◌, ◌&&◌, int_le, nat_lt, 
 use Rattle.std.specs.Fmt.{decimal}
 use Rattle.std.specs.Str.{bytes_eq}
 use Rattle.std.specs.Str.Parse.{digits_value}
+use Rattle.mr_data.specs.Given.{last_moment}
 use Rattle.hex.specs.Hex.{decode_sized}
 use Rattle.hex.specs.declared.error.FromHexError.{FromHexError}
 use Rattle.mr_repl.specs.ReplId.{digits_of}
@@ -21,7 +22,7 @@ count_of word = let n = digits_value 10 word in if nat_lt n (2 ^ 64) && bytes_eq
 
 -- a moment in milliseconds
 abbrev pub moment_if : ℤ → Option ℤ
-moment_if now = if int_le (pos 0) now && int_le now (pos (2 ^ 61)) then Some now else None
+moment_if now = if int_le (pos 0) now && int_le now (pos last_moment) then Some now else None
 
 abbrev pub moment_of : List ℕ → Option ℤ
 moment_of word = with (number_of word) moment_if

@@ -11,7 +11,7 @@ use std::alloc::AllocError;
 
 /// What a line is answered.
 #[derive(Clone, Copy)]
-pub enum Answer<'a> {
+pub enum ScriptAnswer<'a> {
     /// A node came, with this number.
     Node(usize),
     /// A link came, with this number.
@@ -36,7 +36,7 @@ pub enum Answer<'a> {
     Bytes(&'a [u8]),
 }
 
-impl<'a> Answer<'a> {
+impl<'a> ScriptAnswer<'a> {
     /// Appends the answer on a line of its own. An `Err` changes nothing.
     #[tactic(auto, using(mr_resp::proofs::AppendsLemmas::take_Extends))]
     pub fn write(&self, out: &mut Vec<u8>) -> Result<(), AllocError>
@@ -54,7 +54,7 @@ impl<'a> Answer<'a> {
 
 /// Appends the answer and a line feed.
 #[tactic(auto, unfolding(crate::specs::Answers::answer_line))]
-fn push_line(answer: &Answer<'_>, out: &mut Vec<u8>) -> Result<(), AllocError>
+fn push_line(answer: &ScriptAnswer<'_>, out: &mut Vec<u8>) -> Result<(), AllocError>
     ensures ok { OnOk result (out.new.items ≡ out.old.items ++ answer_line answer.now) }
     ensures kept { Extends out.old.items out.new.items }
 {
@@ -64,22 +64,22 @@ fn push_line(answer: &Answer<'_>, out: &mut Vec<u8>) -> Result<(), AllocError>
 }
 
 /// Appends the text of the answer.
-fn push_text(answer: &Answer<'_>, out: &mut Vec<u8>) -> Result<(), AllocError>
+fn push_text(answer: &ScriptAnswer<'_>, out: &mut Vec<u8>) -> Result<(), AllocError>
     ensures ok { OnOk result (out.new.items ≡ out.old.items ++ answer_text answer.now) }
     ensures kept { Extends out.old.items out.new.items }
 {
     match answer {
-        Answer::Node(node) => push_numbered(b"node", *node, out),
-        Answer::Link(link) => push_numbered(b"link", *link, out),
-        Answer::Done => out.extend_from_slice(b"ok"),
-        Answer::Refused(cause) => push_numbered(b"refused", usize::from(*cause), out),
-        Answer::Bad => out.extend_from_slice(b"bad line"),
-        Answer::Shows { node, id, offset } => push_shown(*node, *id, *offset, out),
-        Answer::Stopped { node } => {
+        ScriptAnswer::Node(node) => push_numbered(b"node", *node, out),
+        ScriptAnswer::Link(link) => push_numbered(b"link", *link, out),
+        ScriptAnswer::Done => out.extend_from_slice(b"ok"),
+        ScriptAnswer::Refused(cause) => push_numbered(b"refused", usize::from(*cause), out),
+        ScriptAnswer::Bad => out.extend_from_slice(b"bad line"),
+        ScriptAnswer::Shows { node, id, offset } => push_shown(*node, *id, *offset, out),
+        ScriptAnswer::Stopped { node } => {
             push_number(*node as u64, out)?;
             out.extend_from_slice(b" stopped")
         }
-        Answer::Bytes(bytes) => push_printed(bytes, out),
+        ScriptAnswer::Bytes(bytes) => push_printed(bytes, out),
     }
 }
 

@@ -6,7 +6,7 @@ ghost use Rattle.mr_script.specs.Answers.{answer_text, is_printable, IsAnswer, p
 ghost use Rattle.mr_inline.specs.Limits.{line_limit};
 ghost use Rattle.mr_script.specs.Lines.{LineSays};
 ghost use Rattle.mr_script.specs.Said.{Said, Says};
-ghost use Rattle.mr_script.specs.declared.answer.Answer.{Answer};
+ghost use Rattle.mr_script.specs.declared.answer.ScriptAnswer.{ScriptAnswer};
 
 /// A line says one thing.
 pub fn lines_say_one_thing()
@@ -21,7 +21,7 @@ pub fn quoted_words_say()
 
 /// An answer is printable, so it has no line feed but the one at its end.
 pub fn answers_are_printable()
-    ensures { (answer : Answer) → IsAnswer answer → AllPass is_printable (answer_text answer) }
+    ensures { (answer : ScriptAnswer) → IsAnswer answer → AllPass is_printable (answer_text answer) }
 {}
 
 /// Printed bytes tell which they are: no two byte strings are printed alike.

@@ -9,7 +9,7 @@ mod numbers;
 mod reading;
 mod side;
 
-pub use answer::Answer;
+pub use answer::ScriptAnswer;
 pub use laws::{answers_are_printable, lines_say_one_thing, printed_bytes_tell, quoted_words_say};
 pub use line::Line;
 pub use side::Side;
