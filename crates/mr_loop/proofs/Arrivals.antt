@@ -14,7 +14,7 @@ use Rattle.mr_rows.specs.LinkRows.{Dials}
 use Rattle.mr_node.specs.Calls.{FeedRow, OpensNoMore}
 use Rattle.mr_node.specs.declared.fault.NodeFault.{NodeFault}
 use Rattle.mr_node.specs.declared.fault.NodeFault.TheVariants as refusal
-use Rattle.mr_wire.specs.Wire.{LinkState, AcceptsNone, Opens}
+use Rattle.mr_wire.specs.Wire.{LinkState, AcceptsNone, Opens, WireState}
 use Rattle.mr_wire.proofs.Places.{one_more, put_and_removed}
 use Rattle.mr_loop.specs.declared.fault.LoopFault.{LoopFault}
 use Rattle.mr_loop.specs.declared.fault.LoopFault.TheVariants as fault
@@ -32,10 +32,11 @@ use Rattle.mr_loop.proofs.Waiting.{all_is, carried_all, dialled_all, ended_all, 
 -- ---- the wire
 
 -- a link that was accepted, or opened to a peer, and closed
-pub closed_again : (a m b : Links LinkState) (l : LinkId) (e : LinkState) → Opens a l e m → b.open_links ≡ remove m.open_links l → b.opened ≡ m.opened → AcceptsNone a b
-closed_again a m b l e came went kept = record {
-  links = went ∙ (ap (λ (z : Links LinkState). remove z.open_links l) came.links ∙ put_and_removed a.open_links l e came.fresh);
-  opened = one_more a.opened b.opened (kept ∙ ap (λ (z : Links LinkState). z.opened) came.links);
+pub closed_again : (a m b : WireState) (l : LinkId) (e : LinkState) → Opens a l e m → b.open_links ≡ remove m.open_links l → b.opened ≡ m.opened → b.sent ≡ m.sent → AcceptsNone a b
+closed_again a m b l e came went kept same = record {
+  links = went ∙ (ap (λ (z : WireState). remove z.open_links l) came.links ∙ put_and_removed a.open_links l e came.fresh);
+  opened = one_more a.opened b.opened (kept ∙ ap (λ (z : WireState). z.opened) came.links);
+  sent = same ∙ ap (λ (z : WireState). z.sent) came.links;
 }
 
 -- ---- a host

@@ -132,7 +132,7 @@ stepped_up a b l given fresh r other s = agreeing_up a b l s.input.unread.bytes 
 off_up : (a b : NodeState) → TurnsOff a b → b.core.up ≡ a.core.up
 off_up a b (stays same) = by_node same
 off_up a b (opens_and_closes mid link opens is) = ap is_up is ∙ ap is_up opens.node
-off_up a b (dials_and_closes mid link outs dials is) = ap is_up is ∙ ap is_up dials.node
+off_up a b (dials_and_closes mid link outs dials sound is) = ap is_up is ∙ ap is_up dials.node
 
 ticked_up : {a b : NodeState} {now : ℤ} {outs : OutsState} → TickRow a now b outs → b.core.up ≡ a.core.up
 ticked_up (deletes up row) = by_core row.core

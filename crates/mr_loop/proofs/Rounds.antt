@@ -1,7 +1,6 @@
 -- What goes on in a host from round to round of a loop, and from part to part of a turn.
 use Rattle.std.proofs.Common.{◌≡◌, ℕ, ℤ, List, Bool, Option, Result, Err}
-use Rattle.mr_links.specs.Links.{Links}
-use Rattle.mr_wire.specs.Wire.{LinkState}
+use Rattle.mr_wire.specs.Wire.{WireState}
 use Rattle.mr_loop.specs.declared.fault.LoopFault.{LoopFault}
 use Rattle.mr_loop.specs.declared.host.Host.{Host}
 use Rattle.mr_loop.specs.Hosts.{IsSame, moment_in, stage_in}
@@ -12,7 +11,7 @@ use Rattle.mr_loop.proofs.Same.{same_here, same_on}
 use Rattle.mr_loop.proofs.Runs.{breaks, broke_moded, still_broke, still_here, still_moded, still_on}
 
 module _ {W F S : Type 0} where
-  module _ (tells : Bool) (links : W → Links LinkState) (failures waited : W → ℕ) (told : F → Option (List ℕ)) (synced : F → Option ℕ) (drawn : S → Option (List (List ℕ))) (clock : S → ℤ) where
+  module _ (tells : Bool) (links : W → WireState) (failures waited : W → ℕ) (told : F → Option (List ℕ)) (synced : F → Option ℕ) (drawn : S → Option (List (List ℕ))) (clock : S → ℤ) where
     pub goes_on : (a b c : Host W F S) → IsSame waited clock a b → Goes tells links failures told synced drawn a b → Goes tells links failures told synced drawn b c → Goes tells links failures told synced drawn a c
     goes_on a b c same x y = still_on x (still_moded b.log.now.mode a.log.now.mode same.mode y)
 

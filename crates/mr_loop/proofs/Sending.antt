@@ -5,14 +5,13 @@ use Rattle.std.specs.Option.{option_map}
 use Rattle.std.specs.FinMap.{get, insert, remove, get-insert, get-remove}
 use Rattle.std.proofs.lemmas.List.{take-append-drop}
 use Rattle.mr_links.specs.LinkId.{id_cmp}
-use Rattle.mr_links.specs.Links.{Links}
 use Rattle.mr_links.specs.declared.link_id.LinkId.{LinkId}
 use Rattle.mr_links.proofs.LinkRows.{ids_total}
 use Rattle.mr_file.specs.declared.sync_mode.SyncMode.{SyncMode}
 use Rattle.mr_file.specs.declared.sync_mode.SyncMode.TheVariants as sync
 use Rattle.mr_file.specs.LogFile.{IsSynced}
 use Rattle.mr_outs.specs.Outs.{OutState, OutsState, grow, append, replace, send, close, use_id, follow, halt, outs_of}
-use Rattle.mr_wire.specs.Wire.{LinkState, Opens, asked_link, count_of}
+use Rattle.mr_wire.specs.Wire.{LinkState, Opens, WireState, asked_link, count_of}
 use Rattle.mr_connections.specs.State.{ConnectionState, begun, changed, left, pushed, where_linked, wrote}
 use Rattle.mr_connections.proofs.Changed.{get-changed}
 use Rattle.mr_connections.proofs.Each.{get-with_each}
@@ -452,18 +451,19 @@ is_sent_once_filed tells mode s t before after k c bytes xs here is stays run = 
 
 -- ---- a fault
 
-silent_same : {v w : Links LinkState} → w.open_links ≡ v.open_links → IsSilent v w
-silent_same {v} {w} e = record {
+silent_same : {v w : WireState} → w.open_links ≡ v.open_links → w.sent ≡ v.sent → IsSilent v w
+silent_same {v} {w} e same = record {
   each = λ l x there. ap (λ m. get m l) e ∙ there;
   new = λ l x none there. absurd (none_some x (sym none ∙ (sym (ap (λ m. get m l) e) ∙ there)));
+  sent = same;
 }
 
 -- one link more, on which nothing was moved
-silent_new : (v w : Links LinkState) (n : LinkId) (f : LinkState) → f.moved ≡ [] → Opens v n f w → IsSilent v w
-silent_new v w n f none o = record { each = each; new = new }
+silent_new : (v w : WireState) (n : LinkId) (f : LinkState) → f.moved ≡ [] → Opens v n f w → IsSilent v w
+silent_new v w n f none o = record { each = each; new = new; sent = ap (λ (z : WireState). z.sent) o.links }
   where
     found : (l : LinkId) → get w.open_links l ≡ cond (eq_by_cmp id_cmp l n) (Some f) (get v.open_links l)
-    found l = ap (λ (z : Links LinkState). get z.open_links l) o.links ∙ get-insert ids_total v.open_links n f l
+    found l = ap (λ (z : WireState). get z.open_links l) o.links ∙ get-insert ids_total v.open_links n f l
 
     each : (l : LinkId) (e : LinkState) → get v.open_links l ≡ Some e → get w.open_links l ≡ Some e
     each l e there = found l ∙ (elim (eq_by_cmp id_cmp l n) as (λ b. eq_by_cmp id_cmp l n ≡ b → cond b (Some f) (get v.open_links l) ≡ Some e) [
@@ -478,19 +478,19 @@ silent_new v w n f none o = record { each = each; new = new }
     ] (sym (found l) ∙ there)
 
 called_silent : (act : Act) (s m : Stage) (outs : OutsState) → Calls act s m outs → IsSilent s.wire m.wire
-called_silent (at_step socket link given fresh news) s m outs h = silent_same (ap (λ (z : Stage). z.wire.open_links) h.same)
-called_silent (at_tick given) s m outs h = silent_same (ap (λ (z : Stage). z.wire.open_links) h.same)
+called_silent (at_step socket link given fresh news) s m outs h = silent_same (ap (λ (z : Stage). z.wire.open_links) h.same) (ap (λ (z : Stage). z.wire.sent) h.same)
+called_silent (at_tick given) s m outs h = silent_same (ap (λ (z : Stage). z.wire.open_links) h.same) (ap (λ (z : Stage). z.wire.sent) h.same)
 called_silent (at_dial socket link) s m outs h = silent_new s.wire m.wire socket (asked_link h.connects.0) refl h.connects.2
 
-silent_on : {v w x : Links LinkState} → x ≡ w → IsSilent v w → IsSilent v x
+silent_on : {v w x : WireState} → x ≡ w → IsSilent v w → IsSilent v x
 silent_on {v} {w} {x} e h = subst (IsSilent v) (sym e) h
 
 module _ (tells : Bool) (mode : SyncMode) where
   silent : (e : Event) (why : LoopFault) (s t : Stage) → fault_of e ≡ Some why → Happens tells mode s e t → IsSilent s.wire t.wire
   silent (spills act outs) why s t told h = silent_on (spilled_wire (outs_of outs) h.called t h.spilled) (called_silent act s h.called outs h.calls)
   silent (tears act outs) why s t told h = silent_on (torn_wire (outs_of outs) h.called t h.torn) (called_silent act s h.called outs h.calls)
-  silent fails why s t told h = silent_same (ap (λ (z : Links LinkState). z.open_links) h.wire)
-  silent (stops stop) why s t told h = silent_same (ap (λ (z : Links LinkState). z.open_links) h.wire)
+  silent fails why s t told h = silent_same (ap (λ (z : WireState). z.open_links) h.wire) (ap (λ (z : WireState). z.sent) h.wire)
+  silent (stops stop) why s t told h = silent_same (ap (λ (z : WireState). z.open_links) h.wire) (ap (λ (z : WireState). z.sent) h.wire)
   silent _ why s t told h = absurd (not_told told)
 
 pub is_silent_behind_faults : IsSilentBehindFaults

@@ -1,7 +1,6 @@
 -- How time passes in a turn: ticks one after another, and what one that deletes nothing leaves due.
 use Rattle.std.proofs.Common.{◌≡◌, ◌<◌, ◌+◌, ◌-◌, ◌++◌, ◌&&◌, nat_le, ℕ, ℤ, List, [], ◌∷◌, Bool, true, false, length, flat_map, Option, None, Some, Result, Err, if◌then◌else◌, arith, refl, sym, ap, subst, ◌∙◌}
 use Rattle.std.specs.Option.{option_and_then}
-use Rattle.mr_links.specs.Links.{Links}
 use Rattle.mr_resp.specs.Spelling.{bulk, number_line}
 use Rattle.mr_effect.specs.Effects.{has_spelling, words_fit}
 use Rattle.mr_effect.specs.Spelling.{size, texts, words}
@@ -12,16 +11,18 @@ use Rattle.mr_entries.specs.Dataset.{Dataset}
 use Rattle.mr_data.specs.Due.{deletions, due, within}
 use Rattle.mr_data.specs.Meaning.{apply, apply_all}
 use Rattle.mr_data.specs.declared.given.Given.{Given}
+use Rattle.mr_repl.specs.Backlog.{offset_limit}
 use Rattle.mr_file.specs.declared.sync_mode.SyncMode.{SyncMode}
 use Rattle.mr_outs.specs.Outs.{OutsState, outs_of}
-use Rattle.mr_rows.specs.Growing.{grown_by, offset_limit}
+use Rattle.mr_rows.specs.Sound.{IsSound}
+use Rattle.mr_rows.specs.Growing.{grown_by}
 use Rattle.mr_rows.specs.State.{Core, NodeState}
 use Rattle.mr_rows.specs.TimeRows.{Beats, Deletes, TickRow, deletes, doomed, rests, room_in}
 use Rattle.mr_rows.specs.TimeRows.Beats.{alone, beats, cut, marks, waits}
 use Rattle.mr_node.specs.Calls.{TickStep}
 use Rattle.mr_node.specs.declared.fault.NodeFault.{NodeFault}
 use Rattle.mr_node.specs.declared.fault.NodeFault.TheVariants as refusal
-use Rattle.mr_wire.specs.Wire.{LinkState}
+use Rattle.mr_wire.specs.Wire.{WireState}
 use Rattle.mr_loop.specs.declared.fault.LoopFault.{LoopFault}
 use Rattle.mr_loop.specs.declared.host.Host.{Host}
 use Rattle.mr_loop.specs.Stage.{Stage}
@@ -130,13 +131,13 @@ missed_same a b now refusal.InputFull other row = absurd row
 
 -- ---- one tick
 
-pub ticks_once : {tells : Bool} {mode : SyncMode} (s t : Stage) (n : NodeState) (given : Given) (outs : OutsState) (old mid new : MomentState) → TickRow s.node given.now n outs → Carried (outs_of outs) (record s { node = n }) t
+pub ticks_once : {tells : Bool} {mode : SyncMode} (s t : Stage) (n : NodeState) (given : Given) (outs : OutsState) (old mid new : MomentState) → TickRow s.node given.now n outs → IsSound n → Carried (outs_of outs) (record s { node = n }) t
     → given.now ≡ old.time → mid ≡ old → Renewed outs.used mid new
     → Passes tells mode 1 old new s t
-ticks_once s t n given outs old mid new row carried at still took =
+ticks_once s t n given outs old mid new row sound carried at still took =
     let none = tick_takes s.node n given.now outs row in
     let same : new ≡ old = renewed_none outs.used mid new none took ∙ still in record {
-      counts = counts_event (acts (at_tick given) outs) old new refl (record { called = record s { node = n }; calls = record { row = row; same = refl }; carried = carried })
+      counts = counts_event (acts (at_tick given) outs) old new refl (record { called = record s { node = n }; calls = record { row = row; sound = sound; same = refl }; carried = carried })
           (gives_none (acts (at_tick given) outs) old new (at, none, refl) (ap (λ (m : MomentState). m.fresh) same) (ap (λ (m : MomentState). m.drawn) same))
           (ap (λ (m : MomentState). m.time) same)
           (ap (λ (m : MomentState). m.turn.steps) same)
@@ -194,7 +195,7 @@ some_ticks n = omega arith
 true_false : (b : Bool) → b ≡ true → b ≡ false → ⊥
 true_false b is not = let wrong : true ≡ false = sym is ∙ not in cc
 
-module _ {W F S : Type 0} (tells : Bool) (links : W → Links LinkState) (failures : W → ℕ) (told : F → Option (List ℕ)) (synced : F → Option ℕ) (drawn : S → Option (List (List ℕ))) where
+module _ {W F S : Type 0} (tells : Bool) (links : W → WireState) (failures : W → ℕ) (told : F → Option (List ℕ)) (synced : F → Option ℕ) (drawn : S → Option (List (List ℕ))) where
   -- none is left
   pub all_passed : (a b : Host W F S) (left done : ℕ) → left ≡ 0
       → PassesSoFar tells a.log.now.mode (most_ticks done) left (moment_in drawn a) (moment_in drawn b) (stage_in links failures told synced a) (stage_in links failures told synced b) → PassesOn tells links failures told synced drawn true (most_ticks done) a b

@@ -219,7 +219,7 @@ dialled_all {a} {b} {l} {outs} d q =
 pub off_all : (a b : NodeState) → TurnsOff a b → AllWait a → AllWait b
 off_all a b (stays same) q = all_is same q
 off_all a b (opens_and_closes mid link opens is) q = all_is is (closed_all link mid (opened_all opens q))
-off_all a b (dials_and_closes mid link outs dials is) q = all_is is (closed_all link mid (dialled_all dials q))
+off_all a b (dials_and_closes mid link outs dials sound is) q = all_is is (closed_all link mid (dialled_all dials q))
 
 -- ---- bytes that are fed
 

@@ -3,12 +3,11 @@ use Rattle.std.proofs.Common.{◌≡◌, ◌≢◌, ◌<◌, ◌≤◌, ◌+◌,
 use Rattle.std.specs.Option.{option_map}
 use Rattle.std.proofs.lemmas.List.{length-drop}
 use Rattle.std.specs.FinMap.{get}
-use Rattle.mr_links.specs.Links.{Links}
 use Rattle.mr_links.specs.declared.link_id.LinkId.{LinkId}
 use Rattle.mr_file.specs.LogFile.{Rose}
 use Rattle.mr_file.specs.declared.sync_mode.SyncMode.{SyncMode}
 use Rattle.mr_rows.specs.State.{NodeState}
-use Rattle.mr_wire.specs.Wire.{LinkState, ChangesLink, behind_write, count_of, moves_none}
+use Rattle.mr_wire.specs.Wire.{LinkState, ChangesLink, WireState, behind_write, count_of, moves_none, sent_by}
 use Rattle.mr_wire.specs.declared.wire.Moved.{Moved}
 use Rattle.mr_wire.specs.declared.wire.Moved.TheVariants as moved
 use Rattle.mr_connections.specs.State.{ConnectionState, HasLink, changed, wrote}
@@ -65,7 +64,7 @@ some_failed count e = cc
 
 -- bytes that were moved, as the wire answered it of what waits on the connection
 pub writes_row : {tells : Bool} {s t : Stage} (socket : LinkId) (c : ConnectionState) (answer : Moved) (bytes : List ℕ) → s.own.batch ≡ [] → Some c ≡ connection_at s.own socket → bytes ≡ c.waiting → answer ≢ moved.Failed
-    → count_of answer ≤ length bytes → ChangesLink s.wire socket (behind_write tells answer bytes) t.wire → (get s.wire.open_links socket ≡ None → t.wire ≡ s.wire) → s.failed ≤ t.failed
+    → count_of answer ≤ length bytes → ChangesLink s.wire socket (behind_write tells answer bytes) (sent_by tells answer bytes) t.wire → (get s.wire.open_links socket ≡ None → t.wire ≡ s.wire) → s.failed ≤ t.failed
     → t.own ≡ with_connections (changed socket (wrote (count_of answer))) s.own → t.node ≡ s.node → SameFile s t → Writes tells socket (take (count_of answer) c.waiting) s t
 writes_row {tells} {s} {t} socket c answer bytes filed here are goes_on within written absent later own node file = record {
   filed = filed;
@@ -76,7 +75,7 @@ writes_row {tells} {s} {t} socket c answer bytes filed here are goes_on within w
   goes_on = goes_on;
   within = subst (λ z. count_of answer ≤ length z) are within;
   bytes_are = refl;
-  wire = record { changes = subst (λ z. ChangesLink s.wire socket (behind_write tells answer z) t.wire) are written; absent = absent };
+  wire = record { changes = subst (λ z. ChangesLink s.wire socket (behind_write tells answer z) (sent_by tells answer z) t.wire) are written; absent = absent };
   later = later;
   own = own;
   node = node;
@@ -85,7 +84,7 @@ writes_row {tells} {s} {t} socket c answer bytes filed here are goes_on within w
 
 -- .. and a write that moved none, where it is answered so
 pub writes_none : {tells : Bool} {s t : Stage} (socket : LinkId) (c : ConnectionState) (answer : Moved) (bytes : List ℕ) → (answer ≡ moved.NotReady) ⊎ (answer ≡ moved.End) → s.own.batch ≡ [] → Some c ≡ connection_at s.own socket → bytes ≡ c.waiting
-    → count_of answer ≤ length bytes → ChangesLink s.wire socket (behind_write tells answer bytes) t.wire → (get s.wire.open_links socket ≡ None → t.wire ≡ s.wire) → s.failed ≤ t.failed
+    → count_of answer ≤ length bytes → ChangesLink s.wire socket (behind_write tells answer bytes) (sent_by tells answer bytes) t.wire → (get s.wire.open_links socket ≡ None → t.wire ≡ s.wire) → s.failed ≤ t.failed
     → t.own ≡ with_connections (changed socket (wrote 0)) s.own → t.node ≡ s.node → SameFile s t → Writes tells socket (take 0 c.waiting) s t
 writes_none {tells} {s} {t} socket c answer bytes none filed here are within written absent later own node file =
     let zero = none_moved answer none in
@@ -93,15 +92,15 @@ writes_none {tells} {s} {t} socket c answer bytes none filed here are within wri
     (writes_row socket c answer bytes filed here are (none_failed answer none) within written absent later (own ∙ ap (λ n. with_connections (changed socket (wrote n)) s.own) (sym zero)) node file)
 
 -- .. and one that failed
-pub breaks_row : {tells : Bool} {s t : Stage} (socket : LinkId) (c : ConnectionState) (link : Option LinkId) (bytes : List ℕ) (wire : Links LinkState) (failed : ℕ) → s.own.batch ≡ [] → Some c ≡ connection_at s.own socket → link ≡ c.link → bytes ≡ c.waiting
-    → ChangesLink s.wire socket (behind_write tells moved.Failed bytes) wire → (get s.wire.open_links socket ≡ None → wire ≡ s.wire) → Rose s.failed failed → Dropped socket link (record s { wire = wire; failed = failed }) t → Breaks tells socket s t
+pub breaks_row : {tells : Bool} {s t : Stage} (socket : LinkId) (c : ConnectionState) (link : Option LinkId) (bytes : List ℕ) (wire : WireState) (failed : ℕ) → s.own.batch ≡ [] → Some c ≡ connection_at s.own socket → link ≡ c.link → bytes ≡ c.waiting
+    → ChangesLink s.wire socket (behind_write tells moved.Failed bytes) (sent_by tells moved.Failed bytes) wire → (get s.wire.open_links socket ≡ None → wire ≡ s.wire) → Rose s.failed failed → Dropped socket link (record s { wire = wire; failed = failed }) t → Breaks tells socket s t
 breaks_row {tells} {s} {t} socket c link bytes wire failed filed here linked are written absent rose dropped = record {
   filed = filed;
   link = link;
   waiting = c.waiting;
   has = has_at s.own socket c link c.waiting here (sym linked) refl;
   wire = wire;
-  touched = record { changes = subst (λ z. ChangesLink s.wire socket (behind_write tells moved.Failed z) wire) are written; absent = absent };
+  touched = record { changes = subst (λ z. ChangesLink s.wire socket (behind_write tells moved.Failed z) (sent_by tells moved.Failed z) wire) are written; absent = absent };
   failed = failed;
   rose = rose;
   dropped = dropped;
@@ -114,15 +113,15 @@ no_bytes zero h = refl
 no_bytes (suc n) h = absurd (omega (arith, h))
 
 -- a write that moved nothing, and didn't fail
-pub stuck_now : {tells : Bool} (v w : Links LinkState) (l : LinkId) (answer : Moved) (bytes : List ℕ) → answer ≢ moved.Failed → moves_none answer ≡ true → ChangesLink v l (behind_write tells answer bytes) w → (get v.open_links l ≡ None → answer ≡ moved.Failed) → IsStuck tells w l
+pub stuck_now : {tells : Bool} (v w : WireState) (l : LinkId) (answer : Moved) (bytes : List ℕ) → answer ≢ moved.Failed → moves_none answer ≡ true → ChangesLink v l (behind_write tells answer bytes) (sent_by tells answer bytes) w → (get v.open_links l ≡ None → answer ≡ moved.Failed) → IsStuck tells w l
 stuck_now {tells} v w l answer bytes goes_on none written absent = record {
   told = λ tell. elim (get v.open_links l) as (λ o. get v.open_links l ≡ o → (e : LinkState) × (get w.open_links l ≡ Some e) × (e.stuck ≡ true)) [
     | None ↦ λ e. absurd (goes_on (absent e))
-    | Some x ↦ λ e. (behind_write tells answer bytes x, here_put v w l (behind_write tells answer bytes x) (touched_links v w l (behind_write tells answer bytes) x e written), ap (λ b. if b then moves_none answer else x.stuck) tell ∙ none)
+    | Some x ↦ λ e. (behind_write tells answer bytes x, here_put v w l (behind_write tells answer bytes x) (touched_links v w l (behind_write tells answer bytes) (sent_by tells answer bytes) x e written), ap (λ b. if b then moves_none answer else x.stuck) tell ∙ none)
   ] refl;
 }
 
-pub none_stuck : {tells : Bool} (v w : Links LinkState) (l : LinkId) (answer : Moved) (bytes : List ℕ) → (answer ≡ moved.NotReady) ⊎ (answer ≡ moved.End) → ChangesLink v l (behind_write tells answer bytes) w → (get v.open_links l ≡ None → answer ≡ moved.Failed) → IsStuck tells w l
+pub none_stuck : {tells : Bool} (v w : WireState) (l : LinkId) (answer : Moved) (bytes : List ℕ) → (answer ≡ moved.NotReady) ⊎ (answer ≡ moved.End) → ChangesLink v l (behind_write tells answer bytes) (sent_by tells answer bytes) w → (get v.open_links l ≡ None → answer ≡ moved.Failed) → IsStuck tells w l
 none_stuck v w l answer bytes (inl e) written absent = stuck_now v w l answer bytes (none_failed answer (inl e)) (ap moves_none e) written absent
 none_stuck v w l answer bytes (inr e) written absent = stuck_now v w l answer bytes (none_failed answer (inr e)) (ap moves_none e) written absent
 
@@ -144,7 +143,7 @@ wrote_less o p socket c count here is some within =
     omega (arith, before, behind, some, within)
 
 -- a client that left too much unread is one to whom a write moved nothing
-pub burdened_stuck : {tells : Bool} (a : NodeState) (o : LoopState) (w : Links LinkState) (socket link : LinkId) → IsBurdened a o socket link → IsWritten tells w socket link o → IsStuck tells w socket
+pub burdened_stuck : {tells : Bool} (a : NodeState) (o : LoopState) (w : WireState) (socket link : LinkId) → IsBurdened a o socket link → IsWritten tells w socket link o → IsStuck tells w socket
 burdened_stuck {tells} a o w socket link b written = elim written.all [
   | inl none ↦ let much = b.too_much in let empty : length b.connection.waiting ≡ 0 = ap length (sym (ap waiting_of b.is) ∙ none) in absurd (omega (arith, much, empty))
   | inr stuck ↦ stuck
@@ -161,7 +160,7 @@ at_now x m = record m { now = x }
 
 -- ---- writing in a loop
 
-module _ {W F S : Type 0} (tells : Bool) (links : W → Links LinkState) (failures waited : W → ℕ) (told : F → Option (List ℕ)) (synced : F → Option ℕ) (drawn : S → Option (List (List ℕ))) (clock : S → ℤ) where
+module _ {W F S : Type 0} (tells : Bool) (links : W → WireState) (failures waited : W → ℕ) (told : F → Option (List ℕ)) (synced : F → Option ℕ) (drawn : S → Option (List (List ℕ))) (clock : S → ℤ) where
   -- some connections were written to
   pub record HasWritten (a b : Host W F S) : Type 0 where
     pub went : Goes tells links failures told synced drawn a b

@@ -1,13 +1,13 @@
 -- What the events of a turn rest on: what is there of a connection, and what the node makes of a call.
 use Rattle.std.specs.Prelude.{◌≡◌, ◌≢◌, ◌<◌, ◌≤◌, ℕ, List, Bool, true, false, Option, Some, None, Result, Ok, Err, length}
 use Rattle.std.specs.FinMap as map
-use Rattle.mr_links.specs.Links.{Links}
 use Rattle.mr_links.specs.declared.link_id.LinkId.{LinkId}
 use Rattle.mr_data.specs.declared.given.Given.{Given}
 use Rattle.mr_outs.specs.Outs.{OutsState}
 use Rattle.mr_outs.specs.Address.{AddressState}
 use Rattle.mr_rows.specs.State.{IsNode, NodeState, end_of, room_of}
 use Rattle.mr_rows.specs.LinkRows.{Opens, Dials, Feeds, closed_at}
+use Rattle.mr_rows.specs.Sound.{IsSound}
 use Rattle.mr_rows.specs.TimeRows.{TickRow}
 use Rattle.mr_node.specs.Calls.{IsClients, OpensNoMore, Unreads}
 use Rattle.mr_node.specs.Parts.{role_of}
@@ -16,7 +16,7 @@ use Rattle.mr_node.specs.declared.fault.NodeFault.{NodeFault}
 use Rattle.mr_node.specs.declared.fault.NodeFault.TheVariants as refusal
 use Rattle.mr_node.specs.declared.step.Step.{Step}
 use Rattle.mr_node.specs.declared.step.Step.TheVariants as step
-use Rattle.mr_wire.specs.Wire.{LinkState, ChangesLink, Connects}
+use Rattle.mr_wire.specs.Wire.{LinkState, ChangesLink, Connects, WireState}
 use Rattle.mr_unsent.specs.Limits.{most_unsent}
 use Rattle.mr_connections.specs.State.{ConnectionState, HasLink, begun, most_kept}
 use Rattle.mr_loop.specs.Carrying.{SameFile}
@@ -64,16 +64,18 @@ pub record HasInput (a : NodeState) (l : LinkId) : Type 0 where
   pub some : count ≢ 0
   pub unread : Unreads a l count
 
--- **A step is made only where something is unread.**
+-- **A step is made only where something is unread.** What the node is then is sound, as behind each call here.
 pub record Stepped (a : NodeState) (l : LinkId) (given : Given) (fresh : List ℕ) (b : NodeState) (result : Result Step NodeFault) : Type 0 where
   pub input : HasInput a l
   pub row : Steps a l given fresh b result
+  pub sound : IsSound b
 
 -- The node takes these bytes on a link that it has.
 pub record Fed (a : NodeState) (l : LinkId) (bytes : List ℕ) (b : NodeState) : Type 0 where
   pub up : a.core.up ≡ true
   pub there : end_of a l ≢ None
   pub feeds : Feeds a l bytes b
+  pub sound : IsSound b
 
 -- the node's end of a link is closed, if there is one
 abbrev pub ended_at : Option LinkId → NodeState → NodeState
@@ -84,7 +86,7 @@ ended_at (Some link) a = closed_at link a
 pub data TurnsOff (a b : NodeState) : Type 0 where
   stays : b ≡ a → TurnsOff a b
   opens_and_closes : (mid : NodeState) (link : LinkId) → Opens a link mid → b ≡ closed_at link mid → TurnsOff a b
-  dials_and_closes : (mid : NodeState) (link : LinkId) (outs : OutsState) → Dials a link mid outs → b ≡ closed_at link mid → TurnsOff a b
+  dials_and_closes : (mid : NodeState) (link : LinkId) (outs : OutsState) → Dials a link mid outs → IsSound mid → b ≡ closed_at link mid → TurnsOff a b
 
 -- where a node answers that it is stopped
 pub data Stop : Type 0 where
@@ -100,13 +102,13 @@ Stopping was_down a b = (a.core.up ≡ false) × (b ≡ a)
 
 -- ---- the wire
 
--- The wire's link becomes what this makes of it, if it is open; and nothing else.
-pub record Touches (a : Links LinkState) (l : LinkId) (f : LinkState → LinkState) (b : Links LinkState) : Type 0 where
-  pub changes : ChangesLink a l f b
+-- The wire's link becomes what this makes of it, if it is open, and these bytes are sent on it; and nothing else.
+pub record Touches (a : WireState) (l : LinkId) (f : LinkState → LinkState) (bytes : List ℕ) (b : WireState) : Type 0 where
+  pub changes : ChangesLink a l f bytes b
   pub absent : map.get a.open_links l ≡ None → b ≡ a
 
 -- The last write of a link moved nothing, as a wire that tells its bytes tells.
-pub record IsStuck (tells : Bool) (w : Links LinkState) (l : LinkId) : Type 0 where
+pub record IsStuck (tells : Bool) (w : WireState) (l : LinkId) : Type 0 where
   pub told : tells ≡ true → (e : LinkState) × (map.get w.open_links l ≡ Some e) × (e.stuck ≡ true)
 
 -- ---- what ends a connection
@@ -115,7 +117,7 @@ pub record IsStuck (tells : Bool) (w : Links LinkState) (l : LinkId) : Type 0 wh
 pub record Has (o : LoopState) (socket : LinkId) (link : Option LinkId) (waiting : List ℕ) : Type 0 where
   pub is : connection_at o socket ≡ Some (record { link = link; waiting = waiting })
 
--- A connection is closed, at the node where that has an end of it, and on the wire; what waits is dropped.
+-- A connection is closed, at the node where that has an end of it, and on the wire; what waits is dropped, and nothing is sent any more.
 pub record Dropped (socket : LinkId) (link : Option LinkId) (s t : Stage) : Type 0 where
   pub node : t.node ≡ ended_at link s.node
   pub connections : t.own.connections ≡ map.remove s.own.connections socket
@@ -125,6 +127,7 @@ pub record Dropped (socket : LinkId) (link : Option LinkId) (s t : Stage) : Type
   pub lacked : t.own.lacked ≡ s.own.lacked
   pub wire : t.wire.open_links ≡ map.remove s.wire.open_links socket
   pub opened : t.wire.opened ≡ s.wire.opened
+  pub sent : t.wire.sent ≡ s.wire.sent
   pub failed : t.failed ≡ s.failed
   pub file : SameFile s t
 
@@ -148,6 +151,7 @@ pub record StepsAt (socket link : LinkId) (given : Given) (fresh : List ℕ) (ne
 -- Time passes.
 pub record TicksAt (given : Given) (s t : Stage) (outs : OutsState) : Type 0 where
   pub row : TickRow s.node given.now t.node outs
+  pub sound : IsSound t.node
   pub same : t ≡ record s { node = t.node }
 
 -- **The master is dialled at the address that the node was told to follow**, on a link that the wire opened to it.
@@ -157,6 +161,7 @@ pub record DialsAt (socket link : LinkId) (s t : Stage) (outs : OutsState) : Typ
   pub connects : Connects s.wire address.host address.port socket t.wire
   pub later : s.failed ≤ t.failed
   pub dials : Dials s.node link t.node outs
+  pub sound : IsSound t.node
   pub fresh : connection_at s.own socket ≡ None
   pub connections : t.own.connections ≡ map.insert s.own.connections socket (begun link)
   pub batch : t.own.batch ≡ s.own.batch

@@ -1,7 +1,6 @@
 -- What the parts of a turn do to a host.
 use Rattle.std.specs.Prelude.{◌≡◌, ◌<◌, ◌≤◌, ℕ, List, Bool, true, Option, Result, Ok, Err}
-use Rattle.mr_links.specs.Links.{Links}
-use Rattle.mr_wire.specs.Wire.{LinkState}
+use Rattle.mr_wire.specs.Wire.{WireState}
 use Rattle.mr_loop.specs.declared.fault.LoopFault.{LoopFault}
 use Rattle.mr_loop.specs.declared.host.Host.{Host}
 use Rattle.mr_loop.specs.declared.told.Turn.{Turn}
@@ -9,7 +8,7 @@ use Rattle.mr_loop.specs.Hosts.{moment_in, stage_in}
 use Rattle.mr_loop.specs.Counting.{CountsStill, IsTickDue, Passes}
 use Rattle.mr_loop.specs.Outcomes.{HasBroken, Does, DoesTelling}
 
-module _ {W F S : Type 0} (tells : Bool) (links : W → Links LinkState) (failures : W → ℕ) (told : F → Option (List ℕ)) (synced : F → Option ℕ) (drawn : S → Option (List (List ℕ))) where
+module _ {W F S : Type 0} (tells : Bool) (links : W → WireState) (failures : W → ℕ) (told : F → Option (List ℕ)) (synced : F → Option ℕ) (drawn : S → Option (List (List ℕ))) where
   -- some events, which are counted, and no tick
   abbrev pub Goes : Host W F S → Host W F S → Type 0
   Goes a b = CountsStill tells a.log.now.mode (moment_in drawn a) (moment_in drawn b) (stage_in links failures told synced a) (stage_in links failures told synced b)
@@ -19,7 +18,7 @@ module _ {W F S : Type 0} (tells : Bool) (links : W → Links LinkState) (failur
   GoesAs result a b = Does tells a.log.now.mode result (moment_in drawn a) (moment_in drawn b) (stage_in links failures told synced a) (stage_in links failures told synced b)
 
   -- .. where the wire had these links before it opened one, and had failed so often
-  abbrev pub GoesFrom : {A : Type 0} → Links LinkState → ℕ → Result A LoopFault → Host W F S → Host W F S → Type 0
+  abbrev pub GoesFrom : {A : Type 0} → WireState → ℕ → Result A LoopFault → Host W F S → Host W F S → Type 0
   GoesFrom before failed result a b = Does tells a.log.now.mode result (moment_in drawn a) (moment_in drawn b) (record (stage_in links failures told synced a) { wire = before; failed = failed }) (stage_in links failures told synced b)
 
   -- .. that tells what it counted

@@ -1,14 +1,13 @@
 -- What a host is to a turn: the stage that it lends, and what stays of it.
 use Rattle.std.specs.Prelude.{◌≡◌, ℕ, ℤ, List, Option}
-use Rattle.mr_links.specs.Links.{Links}
-use Rattle.mr_wire.specs.Wire.{LinkState}
+use Rattle.mr_wire.specs.Wire.{WireState}
 use Rattle.mr_loop.specs.declared.host.Host.{Host}
 use Rattle.mr_loop.specs.Stage.{Stage, stage}
 use Rattle.mr_loop.specs.Counting.{MomentState}
 
 module _ {W F S : Type 0} where
   -- the stage: of a wire its links and how often it failed, and of a file its bytes and how many are synced
-  abbrev pub stage_in : (W → Links LinkState) → (W → ℕ) → (F → Option (List ℕ)) → (F → Option ℕ) → Host W F S → Stage
+  abbrev pub stage_in : (W → WireState) → (W → ℕ) → (F → Option (List ℕ)) → (F → Option ℕ) → Host W F S → Stage
   stage_in links failures told synced h = stage h.node.now h.own.now (links h.wire.now) (failures h.wire.now) (told h.log.now.file) (synced h.log.now.file)
 
   -- its moment, with the ids that the source tells

@@ -1,7 +1,6 @@
 -- What a turn does: one event after another, each by its row. A row says what becomes of everything that a turn acts on.
 use Rattle.std.specs.Prelude.{◌≡◌, ◌≢◌, ◌≤◌, ℕ, List, [], ◌∷◌, Bool, true, false, Option, Some, None, Ok, Err, length, take}
 use Rattle.std.specs.FinMap as map
-use Rattle.mr_links.specs.Links.{Links}
 use Rattle.mr_links.specs.declared.link_id.LinkId.{LinkId}
 use Rattle.mr_data.specs.declared.given.Given.{Given}
 use Rattle.mr_outs.specs.Outs.{OutsState, outs_of}
@@ -12,7 +11,7 @@ use Rattle.mr_node.specs.declared.step.Step.TheVariants as step
 use Rattle.mr_file.specs.LogFile.{Appends, AppendsSome, IsSynced, Rose}
 use Rattle.mr_file.specs.declared.sync_mode.SyncMode.{SyncMode}
 use Rattle.mr_file.specs.declared.sync_mode.SyncMode.TheVariants as sync
-use Rattle.mr_wire.specs.Wire.{LinkState, Accepts, AcceptsNone, behind_read, behind_write, count_of, is_over}
+use Rattle.mr_wire.specs.Wire.{Accepts, AcceptsNone, WireState, behind_read, behind_write, count_of, is_over, sent_by}
 use Rattle.mr_wire.specs.declared.wire.Moved.{Moved}
 use Rattle.mr_wire.specs.declared.wire.Moved.TheVariants as moved
 use Rattle.mr_connections.specs.State.{HasLink, begun, changed, parted, wrote}
@@ -120,7 +119,7 @@ pub record Takes (tells : Bool) (socket : LinkId) (bytes : List ℕ) (s t : Stag
   pub buffer : List ℕ
   pub bytes_are : bytes ≡ take count buffer
   pub room : HasRoom s.node link count
-  pub wire : Touches s.wire socket (behind_read tells (moved.Bytes count) buffer) t.wire
+  pub wire : Touches s.wire socket (behind_read tells (moved.Bytes count) buffer) [] t.wire
   pub later : s.failed ≤ t.failed
   pub node : Fed s.node link bytes t.node
   pub own : t.own ≡ s.own
@@ -133,7 +132,7 @@ pub record FindsNone (tells : Bool) (socket : LinkId) (s t : Stage) : Type 0 whe
   pub buffer : List ℕ
   pub none : count_of answer ≡ 0
   pub goes_on : is_over answer ≡ false
-  pub wire : Touches s.wire socket (behind_read tells answer buffer) t.wire
+  pub wire : Touches s.wire socket (behind_read tells answer buffer) [] t.wire
   pub later : s.failed ≤ t.failed
   pub node : t.node ≡ s.node
   pub own : t.own ≡ s.own
@@ -143,7 +142,7 @@ pub record FindsNone (tells : Bool) (socket : LinkId) (s t : Stage) : Type 0 whe
 pub record HearsEnd (tells : Bool) (socket link : LinkId) (s t : Stage) : Type 0 where
   pub read : IsRead s.own socket link
   pub buffer : List ℕ
-  pub wire : Touches s.wire socket (behind_read tells moved.End buffer) t.wire
+  pub wire : Touches s.wire socket (behind_read tells moved.End buffer) [] t.wire
   pub later : s.failed ≤ t.failed
   pub node : t.node ≡ closed_at link s.node
   pub own : t.own ≡ with_connections (parted link) s.own
@@ -154,8 +153,8 @@ pub record Loses (tells : Bool) (socket : LinkId) (s t : Stage) : Type 0 where
   pub link : LinkId
   pub read : IsRead s.own socket link
   pub buffer : List ℕ
-  pub wire : Links LinkState
-  pub touched : Touches s.wire socket (behind_read tells moved.Failed buffer) wire
+  pub wire : WireState
+  pub touched : Touches s.wire socket (behind_read tells moved.Failed buffer) [] wire
   pub failed : ℕ
   pub rose : Rose s.failed failed
   pub dropped : Dropped socket (Some link) (record s { wire = wire; failed = failed }) t
@@ -166,8 +165,8 @@ pub record Misses (tells : Bool) (socket : LinkId) (s t : Stage) : Type 0 where
   pub read : IsRead s.own socket link
   pub count : ℕ
   pub buffer : List ℕ
-  pub wire : Links LinkState
-  pub touched : Touches s.wire socket (behind_read tells (moved.Bytes count) buffer) wire
+  pub wire : WireState
+  pub touched : Touches s.wire socket (behind_read tells (moved.Bytes count) buffer) [] wire
   pub failed : ℕ
   pub later : s.failed ≤ failed
   pub refused : FeedRow s.node link (take count buffer) (length (take count buffer)) s.node (Err refusal.Memory)
@@ -219,7 +218,7 @@ pub record Writes (tells : Bool) (socket : LinkId) (bytes : List ℕ) (s t : Sta
   pub goes_on : answer ≢ moved.Failed
   pub within : count_of answer ≤ length waiting
   pub bytes_are : bytes ≡ take (count_of answer) waiting
-  pub wire : Touches s.wire socket (behind_write tells answer waiting) t.wire
+  pub wire : Touches s.wire socket (behind_write tells answer waiting) (sent_by tells answer waiting) t.wire
   pub later : s.failed ≤ t.failed
   pub own : t.own ≡ with_connections (changed socket (wrote (count_of answer))) s.own
   pub node : t.node ≡ s.node
@@ -231,8 +230,8 @@ pub record Breaks (tells : Bool) (socket : LinkId) (s t : Stage) : Type 0 where
   pub link : Option LinkId
   pub waiting : List ℕ
   pub has : Has s.own socket link waiting
-  pub wire : Links LinkState
-  pub touched : Touches s.wire socket (behind_write tells moved.Failed waiting) wire
+  pub wire : WireState
+  pub touched : Touches s.wire socket (behind_write tells moved.Failed waiting) (sent_by tells moved.Failed waiting) wire
   pub failed : ℕ
   pub rose : Rose s.failed failed
   pub dropped : Dropped socket link (record s { wire = wire; failed = failed }) t

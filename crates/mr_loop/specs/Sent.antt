@@ -4,9 +4,8 @@ use Rattle.std.specs.Ordering.{eq_by_cmp}
 use Rattle.std.specs.FinMap as map
 use Rattle.mr_links.specs.LinkId.{id_cmp}
 use Rattle.mr_links.specs.declared.link_id.LinkId.{LinkId}
-use Rattle.mr_links.specs.Links.{Links}
 use Rattle.mr_outs.specs.Outs.{OutState, grow, append, replace, send, close, use_id, follow, halt, outs_of}
-use Rattle.mr_wire.specs.Wire.{LinkState}
+use Rattle.mr_wire.specs.Wire.{LinkState, SentState, WireState, sent_on}
 use Rattle.mr_file.specs.LogFile.{IsSynced}
 use Rattle.mr_file.specs.declared.sync_mode.SyncMode.{SyncMode}
 use Rattle.mr_file.specs.declared.sync_mode.SyncMode.TheVariants as sync
@@ -129,7 +128,7 @@ moved_of None = []
 moved_of (Some e) = e.moved
 
 -- the bytes that writes moved on a link of the wire
-abbrev pub moved_on : Links LinkState → LinkId → List ℕ
+abbrev pub moved_on : WireState → LinkId → List ℕ
 moved_on w l = moved_of (map.get w.open_links l)
 
 -- Connections have their sockets where there is none, and go on having them.
@@ -149,6 +148,20 @@ pub record IsTold (s : Stage) (k : LinkId) (c : ConnectionState) (es : List Even
 -- its link since.
 abbrev pub WireHasWhatIsSent : Type 0
 WireHasWhatIsSent = (mode : SyncMode) (s t : Stage) (es : List Event) (k : LinkId) (c : ConnectionState) → HaveSockets s → connection_at s.own k ≡ Some c → Run true mode s es t → StaysIn k es → IsTold s k c es t
+
+-- all that was sent, with what an event sends behind it
+abbrev pub told_by : Event → List SentState → List SentState
+told_by (writes j bytes) sent = sent_on j bytes sent
+told_by _ sent = sent
+
+abbrev pub told_in : List Event → List SentState → List SentState
+told_in [] sent = sent
+told_in (e ∷ es) sent = told_in es (told_by e sent)
+
+-- **Nothing else is ever sent.** All that a wire which tells its bytes has sent, on links that are closed since too, is what it had sent and what the events that are writes
+-- moved, one behind another.
+abbrev pub SendsNothingElse : Type 0
+SendsNothingElse = (mode : SyncMode) (s t : Stage) (es : List Event) → HaveSockets s → Run true mode s es t → t.wire.sent ≡ told_in es s.wire.sent
 
 -- where nothing waits for the file, all its bytes are synced
 abbrev pub IsSyncedWhole : Stage → Type 0
@@ -172,10 +185,11 @@ abbrev pub IsSentOnceFiled : Type 0
 IsSentOnceFiled = (tells : Bool) (mode : SyncMode) (s t : Stage) (before after : List Event) (k : LinkId) (c : ConnectionState) (bytes xs : List ℕ) → connection_at s.own k ≡ Some c → s.told ≡ Some xs
     → StaysIn k before → Run tells mode s (before ++ writes k bytes ∷ after) t → IsFiledFirst tells mode s before k c bytes xs
 
--- each link is as it was, and on one that is new nothing was moved
-pub record IsSilent (a b : Links LinkState) : Type 0 where
+-- Each link is as it was, on one that is new nothing was moved, and nothing was sent on any that is closed since.
+pub record IsSilent (a b : WireState) : Type 0 where
   pub each : (l : LinkId) (e : LinkState) → map.get a.open_links l ≡ Some e → map.get b.open_links l ≡ Some e
   pub new : (l : LinkId) (e : LinkState) → map.get a.open_links l ≡ None → map.get b.open_links l ≡ Some e → e.moved ≡ []
+  pub sent : b.sent ≡ a.sent
 
 -- **Behind a fault nothing is sent.** Each link of the wire is as it was before the last event.
 abbrev pub IsSilentBehindFaults : Type 0

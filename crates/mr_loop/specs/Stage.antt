@@ -3,10 +3,9 @@ use Rattle.std.specs.Prelude.{◌≡◌, ℕ, ◌+◌, ◌-◌, ◌^◌, min, Li
 use Rattle.std.specs.Coded.{Coded, code_by, coded×, coded_ℕ, coded_bool, coded_list}
 use Rattle.std.specs.FinMap as map
 use Rattle.mr_links.specs.LinkId.{id_cmp, coded_id}
-use Rattle.mr_links.specs.Links.{Links}
 use Rattle.mr_links.specs.declared.link_id.LinkId.{LinkId}
 use Rattle.mr_rows.specs.State.{NodeState}
-use Rattle.mr_wire.specs.Wire.{LinkState}
+use Rattle.mr_wire.specs.Wire.{WireState}
 use Rattle.mr_connections.specs.State.{ConnectionState, connection_code}
 
 -- what the loop itself holds
@@ -50,10 +49,10 @@ Lacks o p = p.lacked ≡ (lacking o).lacked
 pub record Stage : Type 0 where
   pub node : NodeState
   pub own : LoopState
-  pub wire : Links LinkState
+  pub wire : WireState
   pub failed : ℕ  -- how often the wire failed
   pub told : Option (List ℕ)  -- the bytes of the file, of one that tells them
   pub synced : Option ℕ  -- how many of them the last sync covered
 
-abbrev pub stage : NodeState → LoopState → Links LinkState → ℕ → Option (List ℕ) → Option ℕ → Stage
+abbrev pub stage : NodeState → LoopState → WireState → ℕ → Option (List ℕ) → Option ℕ → Stage
 stage node own wire failed told synced = record { node = node; own = own; wire = wire; failed = failed; told = told; synced = synced }

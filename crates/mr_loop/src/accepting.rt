@@ -1,7 +1,6 @@
 // Links that peers open.
 ghost use Rattle.std.specs.Prelude.{◌≡◌, ◌≤◌, ℕ, IsErrOf, OnOk, true};
-ghost use Rattle.mr_links.specs.Links.{Links as LinksState};
-ghost use Rattle.mr_wire.specs.Wire.{LinkState, Accepts};
+ghost use Rattle.mr_wire.specs.Wire.{WireState, Accepts};
 ghost use Rattle.mr_loop.specs.Going.{GoesAs, GoesFrom};
 ghost use Rattle.mr_loop.specs.Hosts.{IsSame};
 ghost use Rattle.mr_loop.specs.Quiet.{AllWait};
@@ -49,7 +48,7 @@ impl<W: Wire, F: LogFile, S: Source> Host<'_, '_, W, F, S> {
 
     /// Opens a link at the node for one that the wire accepted, or closes that.
     fn join(&mut self, socket: LinkId) -> Result<bool, LoopFault>
-        ensures went { (before : LinksState LinkState) (failed : ℕ) → Accepts before socket (W.links self.old.wire.now) → failed ≤ W.failures self.old.wire.now → GoesFrom W.tells W.links W.failures F.told F.synced S.drawn before failed result self.old self.new }
+        ensures went { (before : WireState) (failed : ℕ) → Accepts before socket (W.links self.old.wire.now) → failed ≤ W.failures self.old.wire.now → GoesFrom W.tells W.links W.failures F.told F.synced S.drawn before failed result self.old self.new }
         ensures same { IsSame W.waited S.clock self.old self.new }
         ensures device { IsErrOf result LoopFault.File → self.new.log.now.broken ≡ true }
         ensures quiet { AllWait self.old.node.now → OnOk result (AllWait self.new.node.now) }

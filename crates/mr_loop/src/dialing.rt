@@ -1,8 +1,7 @@
 // The link to the master.
 ghost use Rattle.std.specs.Prelude.{◌≡◌, ◌≤◌, ℕ, IsErrOf, None, OnOk, Some, true, false};
-ghost use Rattle.mr_links.specs.Links.{Links as LinksState};
 ghost use Rattle.mr_outs.specs.Address.{AddressState};
-ghost use Rattle.mr_wire.specs.Wire.{LinkState, Connects};
+ghost use Rattle.mr_wire.specs.Wire.{WireState, Connects};
 ghost use Rattle.mr_loop.specs.Going.{GoesAs, GoesFrom};
 ghost use Rattle.mr_loop.specs.Hosts.{IsSame};
 ghost use Rattle.mr_loop.specs.Quiet.{AllWait};
@@ -44,20 +43,23 @@ impl<W: Wire, F: LogFile, S: Source> Host<'_, '_, W, F, S> {
     fn dial_on(&mut self, socket: LinkId) -> Result<(), LoopFault>
         requires replica { self.old.node.now.core.master ≡ false }
         requires alone { self.old.node.now.follow ≡ None }
-        ensures went { (before : LinksState LinkState) (failed : ℕ) (address : AddressState) → self.old.node.now.core.upstream ≡ Some address → Connects before address.host address.port socket (W.links self.old.wire.now) → failed ≤ W.failures self.old.wire.now → GoesFrom W.tells W.links W.failures F.told F.synced S.drawn before failed result self.old self.new }
+        ensures went { (before : WireState) (failed : ℕ) (address : AddressState) → self.old.node.now.core.upstream ≡ Some address → Connects before address.host address.port socket (W.links self.old.wire.now) → failed ≤ W.failures self.old.wire.now → GoesFrom W.tells W.links W.failures F.told F.synced S.drawn before failed result self.old self.new }
         ensures same { IsSame W.waited S.clock self.old self.new }
         ensures device { IsErrOf result LoopFault.File → self.new.log.now.broken ≡ true }
         ensures quiet { AllWait self.old.node.now → OnOk result (AllWait self.new.node.now) }
     {
         match self.node.dial(self.own.seed()) {
-            Ok((link, outs)) => match self.own.join(socket, link) {
-                Ok(()) => self.take(outs),
-                Err(_refused) => {
-                    self.node.close(link);
-                    self.wire.close(socket);
-                    Ok(())
+            Ok((link, outs)) => {
+                self.node.sound();
+                match self.own.join(socket, link) {
+                    Ok(()) => self.take(outs),
+                    Err(_refused) => {
+                        self.node.close(link);
+                        self.wire.close(socket);
+                        Ok(())
+                    }
                 }
-            },
+            }
             Err(NodeFault::Stopped) => {
                 self.wire.close(socket);
                 Err(LoopFault::Stopped)

@@ -3,7 +3,7 @@ ghost use Rattle.mr_loop.specs.Counting.{KnowsShutdown};
 ghost use Rattle.mr_loop.specs.Giving.{TakesEachOnce};
 ghost use Rattle.mr_loop.specs.Hearing.{TellsNothingElse, TellsWhatCame};
 ghost use Rattle.mr_loop.specs.Outcomes.{TurnsTakeEachOnce};
-ghost use Rattle.mr_loop.specs.Sent.{GoesOutInOrder, HaveSocketsAlways, HaveSocketsFirst, IsSentOnceFiled, IsSilentBehindFaults, WireHasWhatIsSent};
+ghost use Rattle.mr_loop.specs.Sent.{GoesOutInOrder, HaveSocketsAlways, HaveSocketsFirst, IsSentOnceFiled, IsSilentBehindFaults, SendsNothingElse, WireHasWhatIsSent};
 
 /// What was moved on a connection is a beginning of what waited there and of what the node sent on its link, in order; the rest waits.
 pub fn what_is_sent_goes_out_in_order()
@@ -30,6 +30,12 @@ pub fn connections_have_sockets()
 /// node sent since.
 pub fn the_wire_has_what_is_sent()
     ensures { WireHasWhatIsSent }
+{}
+
+/// All that a wire which tells its bytes has sent, on links that are closed since too, is what it had sent and what the writes of the
+/// events moved.
+pub fn nothing_else_is_sent()
+    ensures { SendsNothingElse }
 {}
 
 /// The loop holds that a client said SHUTDOWN where one did at a step, or where it held so before.

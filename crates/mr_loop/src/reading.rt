@@ -77,6 +77,7 @@ impl<W: Wire, F: LogFile, S: Source> Host<'_, '_, W, F, S> {
                 }
                 match self.node.feed(link, &buffer[..count]) {
                     Ok(()) => {
+                        self.node.sound();
                         self.own.widen(socket, count);
                         Some(link)
                     }

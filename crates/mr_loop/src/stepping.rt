@@ -93,16 +93,24 @@ impl<W: Wire, F: LogFile, S: Source> Host<'_, '_, W, F, S> {
         self.moment.count_step();
         match self.node.step(link, given, fresh) {
             Ok(Step::Done(outs)) => {
+                self.node.sound();
                 self.moment.count_use();
                 let news = news_of(place, self.node.role(), &outs);
                 self.moment.hear(news);
                 self.take(outs)?;
                 Ok(true)
             }
-            Ok(Step::Idle) => Ok(false),
+            Ok(Step::Idle) => {
+                self.node.sound();
+                Ok(false)
+            }
             Ok(Step::Closed) => Ok(false),
-            Err(NodeFault::Stopped) => Err(LoopFault::Stopped),
+            Err(NodeFault::Stopped) => {
+                self.node.sound();
+                Err(LoopFault::Stopped)
+            }
             Err(_refused) => {
+                self.node.sound();
                 self.own.lack();
                 self.drop_connection(socket, Some(link));
                 Ok(false)

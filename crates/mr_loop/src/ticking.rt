@@ -41,6 +41,7 @@ impl<W: Wire, F: LogFile, S: Source> Host<'_, '_, W, F, S> {
         let given = self.moment.given(self.source.word());
         match self.node.tick(given) {
             Ok(outs) => {
+                self.node.sound();
                 let more = has_deleted(&outs);
                 self.take(outs)?;
                 Ok(more)

@@ -74,7 +74,7 @@ ended_core (Some l) a = refl
 turned_core : (a b : NodeState) → TurnsOff a b → b.core ≡ a.core
 turned_core a b (TurnsOff.stays e) = ap (λ (z : NodeState). z.core) e
 turned_core a b (TurnsOff.opens_and_closes mid link o e) = ap (λ (z : NodeState). z.core) e ∙ ap (λ (z : NodeState). z.core) o.node
-turned_core a b (TurnsOff.dials_and_closes mid link outs d e) = ap (λ (z : NodeState). z.core) e ∙ ap (λ (z : NodeState). z.core) d.node
+turned_core a b (TurnsOff.dials_and_closes mid link outs d sound e) = ap (λ (z : NodeState). z.core) e ∙ ap (λ (z : NodeState). z.core) d.node
 
 idle_closed : ◌≡◌ {A = Result Step NodeFault} (Ok step.Idle) (Ok step.Closed) → ⊥
 idle_closed e = cc

@@ -1,11 +1,29 @@
 //! What holds of the node and of its file over turns. No function here does anything: each is the law that it ensures.
-ghost use Rattle.mr_turns.specs.Calling.{TurnsCall};
+ghost use Rattle.mr_turns.specs.Calling.{FaultsCall, TurnsCall};
+ghost use Rattle.mr_turns.specs.Worlds.{CallsAreEvents, ServersKeepWorlds, ServersNeverDiffer};
 ghost use Rattle.mr_turns.specs.Keeping.{FaultsTear, KeptFilesAreWhole, TurnsKeep, TurnsLeaveWhole, WholeFilesAreKept};
 
 /// **Each call that a turn makes on its node is one of a World's events**: a client's link comes, bytes come at an end, a step, a tick, an end
-/// closes, a dial. Each is by its row, in the order in which they are made.
+/// closes, a dial. Each is by its row, in the order in which they are made; also where a turn ends for a fault, up to its last.
 pub fn turns_call()
-    ensures { TurnsCall }
+    ensures turns { TurnsCall }
+    ensures faults { FaultsCall }
+{}
+
+/// **In each World in which a server's node is one of the nodes, each call on it is an event of that World**, taken as its row says, or refused for want
+/// of memory where the call was; or one that nobody sees, at a link of which the node has no open end.
+pub fn calls_are_events()
+    ensures { CallsAreEvents }
+{}
+
+/// What a server does leaves a World, and is an event of histories there, or nothing that they see.
+pub fn servers_keep_worlds()
+    ensures { ServersKeepWorlds }
+{}
+
+/// **Nodes that servers run never differ silently**: at any two moments those that show the same replication id and offset hold the same dataset.
+pub fn servers_never_differ()
+    ensures { ServersNeverDiffer }
 {}
 
 /// Where nothing waits for the file, as before and behind each turn, it is kept exactly where it is read whole, as the node's dataset.

@@ -1,5 +1,6 @@
 //! A wire that keeps what went over its links.
 ghost use Rattle.std.specs.Prelude.{true};
+ghost use Rattle.mr_wire.specs.Wire.{wire_of};
 
 use crate::heard::{HeardLink, HeardLinks};
 use mr_links::LinkId;
@@ -50,7 +51,7 @@ fn peer_of(wire: &MemWire, connected: Result<LinkId, Failed>) -> Option<SocketAd
 impl Wire for HeardWire {
     ghost tells = { true };
 
-    ghost links = { λ w. w.wire.links };
+    ghost links = { λ w. wire_of w.wire.links w.wire.sent };
 
     ghost failures = { λ w. w.wire.failed.count };
 

@@ -5,14 +5,12 @@ ghost use Rattle.mr_data.specs.Given.{IsMoment};
 
 use crate::fault::RehearsalFault;
 use crate::line::{count_of, id_of};
+use mr_data::LAST_MOMENT;
 use mr_repl::ReplId;
 use mr_source::Source;
 use std::alloc::Global;
 use std::collections::VecDeque;
 use std::mem;
-
-/// No moment is later.
-const LAST_MOMENT: i64 = 1 << 61;
 
 /// A clock, words and ids that are listed: each call takes the next. At the end of its list the clock stands still, each word is 0,
 /// and an id is that of the number of ids that were drawn, itself among them.

@@ -5,12 +5,9 @@ use crate::step::{Step, bytes_of, count_of, id_of};
 use crate::telling::{tell, tell_bytes, tell_shown};
 use mr_data::Dataset;
 use mr_follow::{FollowFault, Follower, Heard, Phase};
-use mr_repl::ReplId;
+use mr_repl::{OFFSET_LIMIT, ReplId};
 use std::alloc::Global;
 use std::hash::RandomState;
-
-/// The greatest offset.
-const MOST: u64 = 1 << 62;
 
 /// A replica: its follower, once a step has begun one, and the dataset that it changes, with its offset.
 #[derive(Drop)]
@@ -43,7 +40,7 @@ impl Replica {
         out: &mut Vec<u8>,
     ) -> Result<(), RehearsalFault> {
         let port = count_of(port)?;
-        if port > 65_535 || self.offset > MOST {
+        if port > 65_535 || self.offset > OFFSET_LIMIT {
             return Err(RehearsalFault::Line);
         }
         let offer = match id {
@@ -78,7 +75,7 @@ impl Replica {
 
     /// Makes a step of the follower, and does with what it heard as a node would.
     fn follow(&mut self, alloc: Global, out: &mut Vec<u8>) -> Result<(), RehearsalFault> {
-        if self.offset > MOST {
+        if self.offset > OFFSET_LIMIT {
             return Err(RehearsalFault::Line);
         }
         let Some(follower) = &mut self.follower else {
@@ -93,7 +90,7 @@ impl Replica {
 
     /// Whether a step applies an effect. Its text is all that `said` holds then.
     fn applies(&mut self, alloc: Global, said: &mut Vec<u8>) -> Result<bool, RehearsalFault> {
-        if self.offset > MOST {
+        if self.offset > OFFSET_LIMIT {
             return Err(RehearsalFault::Line);
         }
         let Some(follower) = &mut self.follower else {

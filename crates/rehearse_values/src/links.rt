@@ -3,7 +3,7 @@ use crate::fault::RehearsalFault;
 use crate::kind::Kind;
 use crate::step::{Step, count_of, link_of};
 use crate::telling::{tell, tell_before, tell_shown, tell_whether};
-use mr_links::{LinkId, Links};
+use mr_links::{LINKS_LIMIT, LinkId, Links};
 use std::alloc::Global;
 
 impl Kind for Links<u64> {
@@ -48,7 +48,7 @@ fn insert(
     out: &mut Vec<u8>,
 ) -> Result<(), RehearsalFault> {
     let link = count_of(step.first)?;
-    if links.opened() >= 1 << 62 {
+    if links.opened() >= LINKS_LIMIT {
         return Err(RehearsalFault::Line);
     }
     let id = links.insert(link)?;

@@ -1,6 +1,6 @@
 //! What one node says to another before the stream.
 ghost use Rattle.std.specs.Prelude.{◌≤◌, IfOk};
-ghost use Rattle.mr_peer_lines.specs.Lines.{most_counted};
+ghost use Rattle.mr_repl.specs.Backlog.{offset_limit};
 
 use crate::fault::RehearsalFault;
 use crate::kind::Kind;
@@ -10,11 +10,8 @@ use mr_peer_lines::{
     PeerLine, PeerLineScan, PsyncReply, next_line, read_offset, read_reply, write_continue,
     write_full, write_length,
 };
-use mr_repl::ReplId;
+use mr_repl::{OFFSET_LIMIT, ReplId};
 use std::alloc::Global;
-
-/// The greatest offset, and the greatest length.
-const MOST: u64 = 1 << 62;
 
 /// Lines have no state.
 #[derive(Drop)]
@@ -125,10 +122,10 @@ fn tell_offset(alloc: Global, step: Step<'_>, out: &mut Vec<u8>) -> Result<(), R
 
 /// A number that a line may have.
 fn counted(word: &str) -> Result<u64, RehearsalFault>
-    ensures { IfOk result (λ number. number ≤ most_counted) }
+    ensures { IfOk result (λ number. number ≤ offset_limit) }
 {
     let number = count_of(word)?;
-    if number > MOST {
+    if number > OFFSET_LIMIT {
         return Err(RehearsalFault::Line);
     }
     Ok(number)

@@ -1,6 +1,5 @@
 use Rattle.std.proofs.Common.{[], ◌∷◌, ap, refl, subst, sym, ◌∙◌}
-use Rattle.mr_links.specs.Links.{Links}
-use Rattle.mr_wire.specs.Wire.{LinkState}
+use Rattle.mr_wire.specs.Wire.{WireState}
 use Rattle.mr_loop.specs.Outcomes.{Turns}
 use Rattle.mr_loop.specs.Rows.{HasWaited}
 use Rattle.mr_loop.specs.Stage.{stage}
@@ -11,7 +10,7 @@ pub returns-in-Ok-clause-went : goal.returns-in-Ok-clause-went
 returns-in-Ok-clause-went g c =
     let log = c.args.log.now in
     let wire = c.wait.new.wire in
-    let on = λ (w : Links LinkState). stage c.args.node.now c.args.links.now w (g.W.Wire.failures wire) (g.F.LogFile.told log.file) (g.F.LogFile.synced log.file) in
+    let on = λ (w : WireState). stage c.args.node.now c.args.links.now w (g.W.Wire.failures wire) (g.F.LogFile.told log.file) (g.F.LogFile.synced log.file) in
     let s = stage c.args.node.now c.args.links.now (g.W.Wire.links c.args.wire.now) (g.W.Wire.failures c.args.wire.now) (g.F.LogFile.told log.file) (g.F.LogFile.synced log.file) in
     let waited : HasWaited s (on (g.W.Wire.links wire)) = record { later = c.wait.ensures.later; is = ap on c.wait.ensures.same } in
     let new = c.turn_at.new in
@@ -31,6 +30,6 @@ pub returns-in-Err-clause-went : goal.returns-in-Err-clause-went
 returns-in-Err-clause-went g c =
     let log = c.args.log.now in record {
       rose = c.in-Err.ensures.cause;
-      is = ap (λ (w : Links LinkState). stage c.args.node.now c.args.links.now w (g.W.Wire.failures c.wait.new.wire) (g.F.LogFile.told log.file) (g.F.LogFile.synced log.file)) c.wait.ensures.same;
+      is = ap (λ (w : WireState). stage c.args.node.now c.args.links.now w (g.W.Wire.failures c.wait.new.wire) (g.F.LogFile.told log.file) (g.F.LogFile.synced log.file)) c.wait.ensures.same;
       none_drawn = refl;
     }

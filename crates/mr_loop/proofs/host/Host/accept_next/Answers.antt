@@ -1,6 +1,5 @@
 use Rattle.std.proofs.Common.{rules, ◌≡◌, ap, refl}
-use Rattle.mr_links.specs.Links.{Links}
-use Rattle.mr_wire.specs.Wire.{LinkState}
+use Rattle.mr_wire.specs.Wire.{WireState}
 use Rattle.mr_loop.specs.Stage.{stage}
 use Rattle.mr_loop.specs.Rows.{turns_away, waits}
 use Rattle.mr_loop.specs.Hosts.{moment_in}
@@ -15,7 +14,7 @@ returns-in-Ok-None-clause-went g c =
     let moment = moment_in g.S.Source.drawn s in
     still_one waits moment moment refl refl refl refl refl refl refl (λ now ids. refl) (record {
       later = c.accept.ensures.later;
-      is = ap (λ (w : Links LinkState). stage s.node.now s.own.now w (g.W.Wire.failures c.accept.new.self) (g.F.LogFile.told s.log.now.file) (g.F.LogFile.synced s.log.now.file)) same;
+      is = ap (λ (w : WireState). stage s.node.now s.own.now w (g.W.Wire.failures c.accept.new.self) (g.F.LogFile.told s.log.now.file) (g.F.LogFile.synced s.log.now.file)) same;
     }) refl
 
 pub returns-in-Err-clause-went : goal.returns-in-Err-clause-went

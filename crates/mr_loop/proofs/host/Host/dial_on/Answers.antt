@@ -23,6 +23,7 @@ returns-in-Ok-join-clause-went g c = λ before failed address told came later.
       connects = came;
       later = later;
       dials = c.in-Ok.ensures.1;
+      sound = c.sound.ensures;
       fresh = c.in-Ok-join.ensures.fresh;
       connections = ap (λ (o : LoopState). o.connections) c.in-Ok-join.ensures.joined;
       batch = ap (λ (o : LoopState). o.batch) c.in-Ok-join.ensures.joined;
@@ -45,8 +46,8 @@ returns-in-Err-join-clause-went g c = λ before failed address told came later.
     let moment = moment_in g.S.Source.drawn c.args.self.now in
     still_one misses_dial moment moment refl refl refl refl refl refl refl (λ now ids. refl)
     (lacks_row
-    (closed_again before (g.W.Wire.links c.args.self.now.wire.now) (g.W.Wire.links c.close-in-Err-join.new.self) c.args.socket (asked_link came.0) came.2 c.close-in-Err-join.ensures.closed c.close-in-Err-join.ensures.opened)
-    (subst (λ k. failed ≤ k) (sym c.close-in-Err-join.ensures.failures) later) (dials_and_closes c.dial.new.self c.in-Ok.link c.in-Ok.outs c.in-Ok.ensures.1 c.close.ensures) c.in-Err-join.ensures.err (refl, refl)) refl
+    (closed_again before (g.W.Wire.links c.args.self.now.wire.now) (g.W.Wire.links c.close-in-Err-join.new.self) c.args.socket (asked_link came.0) came.2 c.close-in-Err-join.ensures.closed c.close-in-Err-join.ensures.opened c.close-in-Err-join.ensures.sent)
+    (subst (λ k. failed ≤ k) (sym c.close-in-Err-join.ensures.failures) later) (dials_and_closes c.dial.new.self c.in-Ok.link c.in-Ok.outs c.in-Ok.ensures.1 c.sound.ensures c.close.ensures) c.in-Err-join.ensures.err (refl, refl)) refl
 
 pub returns-in-Err-join-clause-quiet : goal.returns-in-Err-join-clause-quiet
 returns-in-Err-join-clause-quiet g c = λ q. all_is c.close.ensures (closed_all c.in-Ok.link c.dial.new.self (dialled_all c.in-Ok.ensures.1 q))
@@ -58,7 +59,7 @@ returns-in-Err-Stopped-clause-went g c = λ before failed address told came late
     let row = subst (DialRow c.args.self.now.node.now c.dial.new.self) is c.dial.ensures in
     still_broke (still_one misses_dial moment moment refl refl refl refl refl refl refl (λ now ids. refl)
     (full_row c.dial.new.self
-    (closed_again before (g.W.Wire.links c.args.self.now.wire.now) (g.W.Wire.links c.close-in-Err-Stopped.new.self) c.args.socket (asked_link came.0) came.2 c.close-in-Err-Stopped.ensures.closed c.close-in-Err-Stopped.ensures.opened)
+    (closed_again before (g.W.Wire.links c.args.self.now.wire.now) (g.W.Wire.links c.close-in-Err-Stopped.new.self) c.args.socket (asked_link came.0) came.2 c.close-in-Err-Stopped.ensures.closed c.close-in-Err-Stopped.ensures.opened c.close-in-Err-Stopped.ensures.sent)
     (subst (λ k. failed ≤ k) (sym c.close-in-Err-Stopped.ensures.failures) later) row refl refl (refl, refl)) refl)
     (broke_one (stops stops_at_open) (c.args.self.now.moment.fresh ∷ []) refl refl refl (record { why = row; own = refl; wire = refl; failed = refl; file = (refl, refl) }))
 
@@ -69,7 +70,7 @@ returns-in-Err g c =
     record {
       went = λ before failed address told came later. still_one misses_dial moment moment refl refl refl refl refl refl refl (λ now ids. refl)
           (lacks_row
-          (closed_again before (g.W.Wire.links c.args.self.now.wire.now) (g.W.Wire.links c.close-in-Err.new.self) c.args.socket (asked_link came.0) came.2 c.close-in-Err.ensures.closed c.close-in-Err.ensures.opened)
+          (closed_again before (g.W.Wire.links c.args.self.now.wire.now) (g.W.Wire.links c.close-in-Err.new.self) c.args.socket (asked_link came.0) came.2 c.close-in-Err.ensures.closed c.close-in-Err.ensures.opened c.close-in-Err.ensures.sent)
           (subst (λ k. failed ≤ k) (sym c.close-in-Err.ensures.failures) later) (stays same) c.lack.ensures (refl, refl)) refl;
       same = record { node = refl; own = refl; wire = refl; log = refl; source = refl; time = refl; mode = refl; wait_stays = c.close-in-Err.ensures.waited; clock_stays = refl };
       device = λ wrong. absurd (ok_no_err tt fault.File wrong);

@@ -1,6 +1,5 @@
 use Rattle.std.proofs.Common.{ap, refl, ◌∙◌}
-use Rattle.mr_links.specs.Links.{Links}
-use Rattle.mr_wire.specs.Wire.{LinkState}
+use Rattle.mr_wire.specs.Wire.{WireState}
 use Rattle.mr_loop.specs.Stage.{LoopState, stage}
 use Rattle.mr_loop.proofs.Same.{same_on}
 use Rattle.mr_loop.proofs.host.Host.gather.Goals as goal
@@ -15,7 +14,7 @@ loop-init g c =
 pub returns-in-None-clause-stays : goal.returns-in-None-clause-stays
 returns-in-None-clause-stays g c =
     let s = c.loop.self in (
-      ap (λ (w : Links LinkState). stage s.node.now s.own.now w (g.W.Wire.failures c.ready.new.self) (g.F.LogFile.told s.log.now.file) (g.F.LogFile.synced s.log.now.file)) c.in-None.ensures.same
+      ap (λ (w : WireState). stage s.node.now s.own.now w (g.W.Wire.failures c.ready.new.self) (g.F.LogFile.told s.log.now.file) (g.F.LogFile.synced s.log.now.file)) c.in-None.ensures.same
           ∙ (ap (λ k. stage s.node.now s.own.now (g.W.Wire.links s.wire.now) k (g.F.LogFile.told s.log.now.file) (g.F.LogFile.synced s.log.now.file)) c.in-None.ensures.failures ∙ c.loop.invariant.0.0),
       c.loop.invariant.0.1,
     )
@@ -28,7 +27,7 @@ loop-preserved g c =
     let s = c.loop.self in (
       (
         ap (λ (o : LoopState). stage s.node.now o (g.W.Wire.links c.ready.new.self) (g.W.Wire.failures c.ready.new.self) (g.F.LogFile.told s.log.now.file) (g.F.LogFile.synced s.log.now.file)) c.serve.ensures
-            ∙ (ap (λ (w : Links LinkState). stage s.node.now s.own.now w (g.W.Wire.failures c.ready.new.self) (g.F.LogFile.told s.log.now.file) (g.F.LogFile.synced s.log.now.file)) c.in-Some.ensures.same
+            ∙ (ap (λ (w : WireState). stage s.node.now s.own.now w (g.W.Wire.failures c.ready.new.self) (g.F.LogFile.told s.log.now.file) (g.F.LogFile.synced s.log.now.file)) c.in-Some.ensures.same
             ∙ (ap (λ k. stage s.node.now s.own.now (g.W.Wire.links s.wire.now) k (g.F.LogFile.told s.log.now.file) (g.F.LogFile.synced s.log.now.file)) c.in-Some.ensures.failures ∙ c.loop.invariant.0.0)),
         c.loop.invariant.0.1,
       ),

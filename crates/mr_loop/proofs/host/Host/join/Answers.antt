@@ -36,7 +36,7 @@ returns-in-Err-join-clause-went g c = λ before failed came later.
     let moment = moment_in g.S.Source.drawn c.args.self.now in
     still_one turns_away moment moment refl refl refl refl refl refl refl (λ now ids. refl)
     (lacks_row
-    (closed_again before (g.W.Wire.links c.args.self.now.wire.now) (g.W.Wire.links c.close-in-Err-join.new.self) c.args.socket new_link came c.close-in-Err-join.ensures.closed c.close-in-Err-join.ensures.opened)
+    (closed_again before (g.W.Wire.links c.args.self.now.wire.now) (g.W.Wire.links c.close-in-Err-join.new.self) c.args.socket new_link came c.close-in-Err-join.ensures.closed c.close-in-Err-join.ensures.opened c.close-in-Err-join.ensures.sent)
     (subst (λ k. failed ≤ k) (sym c.close-in-Err-join.ensures.failures) later) (opens_and_closes c.open.new.self c.in-Ok.link c.in-Ok.ensures.1 c.close.ensures) c.in-Err-join.ensures.err (refl, refl)) refl
 
 pub returns-in-Err-join-clause-quiet : goal.returns-in-Err-join-clause-quiet
@@ -49,7 +49,7 @@ returns-in-Err-Stopped-clause-went g c = λ before failed came later.
     let row = subst (OpenRow c.args.self.now.node.now c.open.new.self) is c.open.ensures in
     still_broke (still_one turns_away moment moment refl refl refl refl refl refl refl (λ now ids. refl)
     (full_row c.open.new.self
-    (closed_again before (g.W.Wire.links c.args.self.now.wire.now) (g.W.Wire.links c.close-in-Err-Stopped.new.self) c.args.socket new_link came c.close-in-Err-Stopped.ensures.closed c.close-in-Err-Stopped.ensures.opened)
+    (closed_again before (g.W.Wire.links c.args.self.now.wire.now) (g.W.Wire.links c.close-in-Err-Stopped.new.self) c.args.socket new_link came c.close-in-Err-Stopped.ensures.closed c.close-in-Err-Stopped.ensures.opened c.close-in-Err-Stopped.ensures.sent)
     (subst (λ k. failed ≤ k) (sym c.close-in-Err-Stopped.ensures.failures) later) row refl refl (refl, refl)) refl)
     (broke_one (stops stops_at_open) (c.args.self.now.moment.fresh ∷ []) refl refl refl (record { why = row; own = refl; wire = refl; failed = refl; file = (refl, refl) }))
 
@@ -63,7 +63,7 @@ returns-in-Err g c =
     record {
       went = λ before failed came later. still_one turns_away moment moment refl refl refl refl refl refl refl (λ now ids. refl)
           (lacks_row
-          (closed_again before (g.W.Wire.links c.args.self.now.wire.now) (g.W.Wire.links c.close-in-Err.new.self) c.args.socket new_link came c.close-in-Err.ensures.closed c.close-in-Err.ensures.opened)
+          (closed_again before (g.W.Wire.links c.args.self.now.wire.now) (g.W.Wire.links c.close-in-Err.new.self) c.args.socket new_link came c.close-in-Err.ensures.closed c.close-in-Err.ensures.opened c.close-in-Err.ensures.sent)
           (subst (λ k. failed ≤ k) (sym c.close-in-Err.ensures.failures) later) (stays same) c.lack.ensures (refl, refl)) refl;
       same = record { node = refl; own = refl; wire = refl; log = refl; source = refl; time = refl; mode = refl; wait_stays = c.close-in-Err.ensures.waited; clock_stays = refl };
       device = λ e. absurd (no_fault e);

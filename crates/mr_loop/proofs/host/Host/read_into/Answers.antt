@@ -1,4 +1,4 @@
-use Rattle.std.proofs.Common.{rules, ◌≡◌, ◌≤◌, ap, length, refl, subst, sym, take}
+use Rattle.std.proofs.Common.{rules, ◌≡◌, ◌≤◌, [], ap, length, refl, subst, sym, take}
 use Rattle.mr_aof.specs.declared.log.Log.{Log}
 use Rattle.mr_wire.specs.Wire.{behind_read}
 use Rattle.mr_wire.specs.declared.wire.Moved.TheVariants as moved
@@ -42,13 +42,13 @@ returns-in-Ok-clause-went g c =
       room = room_for c.args.self.now.node.now c.args.link c.in-Bytes.count (length c.read.new.into) room c.in-Bytes.ensures.within;
       wire = record { changes = c.in-Bytes.ensures.read; absent = λ e. (c.read.ensures.absent e).1 };
       later = c.read.ensures.later;
-      node = record { up = c.in-Ok.ensures.0; there = c.in-Ok.ensures.1; feeds = c.in-Ok.ensures.3 };
+      node = record { up = c.in-Ok.ensures.0; there = c.in-Ok.ensures.1; feeds = c.in-Ok.ensures.3; sound = c.sound.ensures };
       own = c.widen.ensures;
       file = (refl, refl);
     }) refl
 
 pub returns-in-Ok-clause-quiet : goal.returns-in-Ok-clause-quiet
-returns-in-Ok-clause-quiet g c = λ q. fed_others c.args.self.now.node.now c.feed.new.self c.args.link (take c.in-Bytes.count c.read.new.into) (record { up = c.in-Ok.ensures.0; there = c.in-Ok.ensures.1; feeds = c.in-Ok.ensures.3 }) q
+returns-in-Ok-clause-quiet g c = λ q. fed_others c.args.self.now.node.now c.feed.new.self c.args.link (take c.in-Bytes.count c.read.new.into) (record { up = c.in-Ok.ensures.0; there = c.in-Ok.ensures.1; feeds = c.in-Ok.ensures.3; sound = c.sound.ensures }) q
 
 pub returns-in-Err-clause-went : goal.returns-in-Err-clause-went
 returns-in-Err-clause-went g c =
@@ -94,11 +94,11 @@ returns-in-NotReady-clause-went g c =
 pub returns-in-End-clause-went : goal.returns-in-End-clause-went
 returns-in-End-clause-went g c =
     let s = c.args.self.now in
-    let touched : Touches (g.W.Wire.links s.wire.now) c.args.socket (behind_read g.W.Wire.tells moved.End c.read.new.into) (g.W.Wire.links c.read.new.self) = record { changes = c.in-End.ensures.read; absent = λ e. (c.read.ensures.absent e).1 } in
+    let touched : Touches (g.W.Wire.links s.wire.now) c.args.socket (behind_read g.W.Wire.tells moved.End c.read.new.into) [] (g.W.Wire.links c.read.new.self) = record { changes = c.in-End.ensures.read; absent = λ e. (c.read.ensures.absent e).1 } in
     still_one (hears_end c.args.socket c.args.link) (moment_in g.S.Source.drawn s) (moment_in g.S.Source.drawn c.part.new.self) refl refl refl refl refl refl refl (λ now ids. refl) (record {
       read = c.requires.read;
       buffer = c.read.new.into;
-      wire = subst (Touches (g.W.Wire.links s.wire.now) c.args.socket (behind_read g.W.Wire.tells moved.End c.read.new.into)) (sym (ap g.W.Wire.links c.part.ensures.wire)) touched;
+      wire = subst (Touches (g.W.Wire.links s.wire.now) c.args.socket (behind_read g.W.Wire.tells moved.End c.read.new.into) []) (sym (ap g.W.Wire.links c.part.ensures.wire)) touched;
       later = subst (λ k. g.W.Wire.failures s.wire.now ≤ k) (sym (ap g.W.Wire.failures c.part.ensures.wire)) c.read.ensures.later;
       node = c.part.ensures.node;
       own = c.part.ensures.own;

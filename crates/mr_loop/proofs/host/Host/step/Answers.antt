@@ -27,7 +27,7 @@ returns-in_err-take-in-Ok-Done-clause-went g c =
     let fresh = c.fresh-fresh.result in
     let outs = c.in-Ok-Done.outs in
     let row = subst (λ r. Steps s.node c.args.link given fresh c.step.new.self r) (ap Ok c.in-Ok-Done.field-0-is) c.in-Ok-Done.ensures in
-    let stepped : Stepped s.node c.args.link given fresh c.step.new.self (Ok (step.Done outs)) = record { input = c.requires.input; row = row } in
+    let stepped : Stepped s.node c.args.link given fresh c.step.new.self (Ok (step.Done outs)) = record { input = c.requires.input; row = row; sound = c.sound.ensures } in
     let why = c.in_err-take-in-Ok-Done.field-0.0 in
     let told : c.from_residual.result ≡ Err why = search rules in
     let a = c.args.self.now in
@@ -45,7 +45,7 @@ returns-in_ok-take-in-Ok-Done-clause-went g c =
     let fresh = c.fresh-fresh.result in
     let outs = c.in-Ok-Done.outs in
     let row = subst (λ r. Steps s.node c.args.link given fresh c.step.new.self r) (ap Ok c.in-Ok-Done.field-0-is) c.in-Ok-Done.ensures in
-    let stepped : Stepped s.node c.args.link given fresh c.step.new.self (Ok (step.Done outs)) = record { input = c.requires.input; row = row } in
+    let stepped : Stepped s.node c.args.link given fresh c.step.new.self (Ok (step.Done outs)) = record { input = c.requires.input; row = row; sound = c.sound.ensures } in
     let old = moment_in g.S.Source.drawn c.args.self.now in
     let new = moment_in g.S.Source.drawn c.take.new.self in
     let mid : MomentState = record { time = c.hear.new.self.time; fresh = c.hear.new.self.fresh; drawn = g.S.Source.drawn c.word.new.self; turn = c.hear.new.self.turn } in
@@ -64,7 +64,7 @@ returns-in_ok-take-in-Ok-Done-clause-quiet g c = λ q.
     let fresh = c.fresh-fresh.result in
     let outs = c.in-Ok-Done.outs in
     let row = subst (λ r. Steps s.node c.args.link given fresh c.step.new.self r) (ap Ok c.in-Ok-Done.field-0-is) c.in-Ok-Done.ensures in
-    let stepped : Stepped s.node c.args.link given fresh c.step.new.self (Ok (step.Done outs)) = record { input = c.requires.input; row = row } in
+    let stepped : Stepped s.node c.args.link given fresh c.step.new.self (Ok (step.Done outs)) = record { input = c.requires.input; row = row; sound = c.sound.ensures } in
     carried_others c.args.link (outs_of outs) (record s { node = c.step.new.self }) t
     (subst (λ (o : OutsState). Carried (outs_of o) (record s { node = c.step.new.self }) t) c.in-Ok-Done.outs-is c.in_ok-take-in-Ok-Done.ensures.carried) (done_others s.node c.step.new.self c.args.link given fresh outs stepped q)
 
@@ -83,7 +83,7 @@ returns-in_ok-take-in-Ok-Done-clause-uses g c = λ used.
     let fresh = c.fresh-fresh.result in
     let outs = c.in-Ok-Done.outs in
     let row = subst (λ r. Steps s.node c.args.link given fresh c.step.new.self r) (ap Ok c.in-Ok-Done.field-0-is) c.in-Ok-Done.ensures in
-    let stepped : Stepped s.node c.args.link given fresh c.step.new.self (Ok (step.Done outs)) = record { input = c.requires.input; row = row } in
+    let stepped : Stepped s.node c.args.link given fresh c.step.new.self (Ok (step.Done outs)) = record { input = c.requires.input; row = row; sound = c.sound.ensures } in
     acts_less s t c.step.new.self c.args.link given fresh outs stepped
     (subst (λ (o : OutsState). Carried (outs_of o) (record s { node = c.step.new.self }) t) c.in-Ok-Done.outs-is c.in_ok-take-in-Ok-Done.ensures.carried)
 
@@ -96,7 +96,7 @@ returns-in-Ok-Idle-clause-went g c =
     let old = moment_in g.S.Source.drawn c.args.self.now in
     let new : MomentState = record { time = c.count_step.new.self.time; fresh = c.count_step.new.self.fresh; drawn = g.S.Source.drawn c.word.new.self; turn = c.count_step.new.self.turn } in
     counts_call (idles c.args.socket c.args.link given fresh) old new c.count_step.new.self.turn refl refl refl refl refl refl refl
-    (record { has = c.requires.has; node = record { input = c.requires.input; row = row }; same = refl }) (given_none old.time given fresh old.fresh c.given-given.ensures c.fresh-fresh.ensures) c.count_step.ensures.turn
+    (record { has = c.requires.has; node = record { input = c.requires.input; row = row; sound = c.sound-in-Ok-Idle.ensures }; same = refl }) (given_none old.time given fresh old.fresh c.given-given.ensures c.fresh-fresh.ensures) c.count_step.ensures.turn
     (counted_only old new c.count_step.ensures.time c.count_step.ensures.fresh c.word.ensures.drawn)
 
 pub returns-in-Ok-Idle-clause-quiet : goal.returns-in-Ok-Idle-clause-quiet
@@ -105,7 +105,7 @@ returns-in-Ok-Idle-clause-quiet g c = λ q.
     let given = c.given-given.result in
     let fresh = c.fresh-fresh.result in
     let row = subst (λ r. Steps a c.args.link given fresh c.step.new.self r) (ap Ok c.in-Ok-Idle.field-0-is) c.in-Ok-Idle.ensures in
-    idle_all a c.step.new.self c.args.link given fresh (record { input = c.requires.input; row = row }) q
+    idle_all a c.step.new.self c.args.link given fresh (record { input = c.requires.input; row = row; sound = c.sound-in-Ok-Idle.ensures }) q
 
 -- something is unread
 pub returns-in-Ok-Closed-clause-went : goal.returns-in-Ok-Closed-clause-went
@@ -132,7 +132,7 @@ returns-in-Err-Stopped-clause-went g c =
     let row = subst (λ r. Steps a c.args.link given fresh c.step.new.self r) (ap Err c.in-Err-Stopped.field-0-is) c.in-Err-Stopped.ensures in
     let old = moment_in g.S.Source.drawn c.args.self.now in
     broke_one (stops (stops_at_step c.args.link given fresh)) (old.fresh ∷ []) refl (given_none old.time given fresh old.fresh c.given-given.ensures c.fresh-fresh.ensures) c.word.ensures.drawn
-    (record { why = record { input = c.requires.input; row = row }; own = refl; wire = refl; failed = refl; file = (refl, refl) })
+    (record { why = record { input = c.requires.input; row = row; sound = c.sound-in-Err-Stopped.ensures }; own = refl; wire = refl; failed = refl; file = (refl, refl) })
 
 pub returns-in-Err : goal.returns-in-Err
 returns-in-Err g c =
@@ -146,7 +146,7 @@ returns-in-Err g c =
     let mid : MomentState = record { time = c.count_step.new.self.time; fresh = c.count_step.new.self.fresh; drawn = g.S.Source.drawn c.word.new.self; turn = c.count_step.new.self.turn } in
     record {
       went = counts_call (is_refused c.args.socket c.args.link given fresh) old (moment_in g.S.Source.drawn c.drop_connection.new.self) c.count_step.new.self.turn refl refl refl refl refl refl refl
-          (record { has = c.requires.has; node = c.step.new.self; refused = record { input = c.requires.input; row = row }; dropped = dropped_from (record (stage_in g.W.Wire.links g.W.Wire.failures g.F.LogFile.told g.F.LogFile.synced c.args.self.now) { node = c.step.new.self }) _ c.step.new.self c.lack.new.self _ refl c.lack.ensures c.drop_connection.ensures.dropped })
+          (record { has = c.requires.has; node = c.step.new.self; refused = record { input = c.requires.input; row = row; sound = c.sound-in-Err.ensures }; dropped = dropped_from (record (stage_in g.W.Wire.links g.W.Wire.failures g.F.LogFile.told g.F.LogFile.synced c.args.self.now) { node = c.step.new.self }) _ c.step.new.self c.lack.new.self _ refl c.lack.ensures c.drop_connection.ensures.dropped })
           (given_none old.time given fresh old.fresh c.given-given.ensures c.fresh-fresh.ensures) c.count_step.ensures.turn (c.drop_connection.ensures.moment ∙ counted_only old mid c.count_step.ensures.time c.count_step.ensures.fresh c.word.ensures.drawn);
       same = same_on c.args.self.now _ c.drop_connection.new.self (record { node = refl; own = refl; wire = refl; log = refl; source = refl; time = c.count_step.ensures.time; mode = refl; wait_stays = refl; clock_stays = c.word.ensures.clock }) c.drop_connection.ensures.same;
       device = λ e. cc;

@@ -24,7 +24,7 @@ returns-in_err-take-in-Ok-clause-went g c =
     subst (λ r. TicksAs g.W.Wire.tells g.W.Wire.links g.W.Wire.failures g.F.LogFile.told g.F.LogFile.synced g.S.Source.drawn r c.args.self.now c.take.new.self) (sym told)
     (not_told c.args.self.now.moment.time (c.args.self.now.moment.fresh ∷ []) (c.args.self.now.moment.fresh ∷ []) (at_tick c.given-given.result) s (record s { node = c.tick.new.self }) t c.in-Ok.outs why
     (c.given-given.ensures, tick_takes s.node c.tick.new.self c.given-given.result.now c.in-Ok.outs c.in-Ok.ensures, refl) (ap (λ (m : MomentState). m.drawn) c.in_err-take-in-Ok.ensures.kept ∙ c.word.ensures.drawn)
-    (record { row = c.in-Ok.ensures; same = refl }) c.in_err-take-in-Ok.ensures.carried)
+    (record { row = c.in-Ok.ensures; sound = c.sound.ensures; same = refl }) c.in_err-take-in-Ok.ensures.carried)
 
 pub returns-in_ok-take-in-Ok-clause-went : goal.returns-in_ok-take-in-Ok-clause-went
 returns-in_ok-take-in-Ok-clause-went g c =
@@ -33,7 +33,7 @@ returns-in_ok-take-in-Ok-clause-went g c =
     let a = c.args.self.now in
     let moment = c.given-given.ensures in
     let same = ap (λ d. record (moment_in g.S.Source.drawn a) { drawn = d }) c.word.ensures.drawn in (
-      ticks_once s t c.tick.new.self c.given-given.result c.in-Ok.outs (moment_in g.S.Source.drawn a) (record (moment_in g.S.Source.drawn a) { drawn = g.S.Source.drawn c.word.new.self }) (moment_in g.S.Source.drawn c.take.new.self) c.in-Ok.ensures c.in_ok-take-in-Ok.ensures.carried moment same c.in_ok-take-in-Ok.ensures.moment,
+      ticks_once s t c.tick.new.self c.given-given.result c.in-Ok.outs (moment_in g.S.Source.drawn a) (record (moment_in g.S.Source.drawn a) { drawn = g.S.Source.drawn c.word.new.self }) (moment_in g.S.Source.drawn c.take.new.self) c.in-Ok.ensures c.sound.ensures c.in_ok-take-in-Ok.ensures.carried moment same c.in_ok-take-in-Ok.ensures.moment,
       λ due. more_due s t c.tick.new.self c.given-given.result.now c.in-Ok.outs c.has_deleted-more.result c.in-Ok.ensures c.in_ok-take-in-Ok.ensures.carried c.has_deleted-more.ensures (subst (λ now. IsTickDue now t.node) (sym moment) due),
     )
 
