@@ -473,6 +473,26 @@ class SortedSets(Rehearsing):
             ("DBSIZE", number(0)),
         ])
 
+    def test_many_members_leave_the_others(self):
+        """Scores run another way than bytes, so that what stands side by side in order is scattered among the effects."""
+        pairs = sorted((it * 77 % 300, "f%03d" % it) for it in range(300))
+        named = sorted(name for _, name in pairs)
+        score = {name: at for at, name in pairs}
+        ordered = [name for _, name in pairs]
+        ranged, scattered = ordered[50:200], ordered[:50:2] + ordered[200::2]
+        left = ordered[1:50:2] + ordered[201::2]
+        self.plays([
+            ("ZADD z " + " ".join("%d %s" % it for it in pairs), number(300), *("ZADD z " + " ".join("%d %s" % (score[it], it) for it in group) for group in by_64(named))),
+            ("ZREMRANGEBYSCORE z 50 (200", number(150), *("ZREM z " + " ".join(it) for it in by_64(sorted(ranged)))),
+            ("ZRANGE z 0 -1", array(*ordered[:50], *ordered[200:])),
+            ("ZREM z " + " ".join(scattered), number(75), *("ZREM z " + " ".join(it) for it in by_64(sorted(scattered)))),
+            ("ZRANGE z 0 -1", array(*left)),
+            ("ZCARD z", number(75)),
+            *(("ZSCORE z " + it, bulk(str(score[it])) if it in left else NIL) for it in ordered[45:55] + ordered[195:205]),
+            ("ZREM z " + " ".join(reversed(ordered)), number(75), *("ZREM z " + " ".join(it) for it in by_64(sorted(left)))),
+            ("DBSIZE", number(0)),
+        ])
+
     def test_offsets_count_the_effects(self):
         self.shows_at(35, "ZADD z 5 a", "ZADD z GT 3 a")
         self.shows_at(63, "ZADD z 1.0 b 1 a 2 c", "ZRANGE z 0 -1 WITHSCORES", "ZADD z 1.5 d")

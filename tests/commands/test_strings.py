@@ -220,6 +220,23 @@ class Strings(Answering):
             ("KEYS hall[o", array("hallo")),
             ("KEYS *l*l*", array("h-llo", "h[llo", "h\\llo", "hallo", "hello", "hxllo")),
         ])
+        self.answers([
+            ("MSET - 1 b 2", OK),
+            ("KEYS [a-]", array("-")),
+            ("KEYS [\\a-c]", array("b")),
+            ("KEYS [a-\\c]", array("b")),
+        ])
+
+    def test_one_option_of_a_deadline(self):
+        self.answers([
+            ("SET k v", OK),
+            ("EXPIRE k 10 FOO", SYNTAX),
+            ("EXPIRE k 10 GT LT", SYNTAX),
+            ("EXPIRE k 10 NX GT", SYNTAX),
+            ("EXPIRE k 10 NX NX", SYNTAX),
+            ("EXPIRE k 10 XX GT", SYNTAX),
+            ("TTL k", number(-1)),
+        ])
 
     def test_a_pattern_with_many_stars_answers_at_once(self):
         name = 10_000 * "a"

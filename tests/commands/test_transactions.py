@@ -12,7 +12,7 @@ from tests.support.replies import (
     ABORTED, DISCARD_ALONE, EXEC_ALONE, INTEGER, NESTED, NIL, NONE, NOT_ALLOWED, OK, OVERFLOW, PONG, QUEUED, READONLY, STARTED, SYNTAX, UNKNOWN, WRONG_KIND,
     Answering, arity, array, array_of, bulk, information, number, role_of_master,
 )
-from tests.support.requests import EXEC, GET, MULTI, PAIR, SET, SET_A, SET_B, SET_W, framed
+from tests.support.requests import EXEC, GET, LEAD, MULTI, PAIR, SET, SET_A, SET_B, SET_W, framed
 
 # what isn't allowed in a transaction
 NOT_WITHIN = ["REPLICAOF h 1", "REPLICAOF NO ONE", "SLAVEOF h 1", "PSYNC ? -1", "REPLCONF capa eof", "REPLCONF ACK 5", "SHUTDOWN", "SHUTDOWN NOSAVE", "BGREWRITEAOF"]
@@ -291,7 +291,7 @@ WRITES = ["SET k w", "DEL none", "EXPIRE k 5", "SPOP s", "LPUSH l a", "HSET h f 
 
 
 class OfReplicas(Rehearsing):
-    """A replica, and one that was a master when the transaction began."""
+    """A replica."""
 
     def are_answered(self, *rows):
         """What is asked of a replica that holds one key. It shows what it showed, and nothing is left to be read."""
@@ -324,14 +324,73 @@ class OfReplicas(Rehearsing):
         calls += [("step 0", done(OK)), ("step 0", done(QUEUED)), ("step 0", done(OK, closes=True)), ("step 0", "closed")]
         self.rehearses([*calls, ("shows", "shows %s 0" % ID)])
 
-    def test_a_write_that_waits_while_its_node_becomes_a_replica(self):
-        """It is refused at its place, and does nothing; what is read beside it is answered."""
-        calls = [*holding("SET k v"), ("master", "started"), *(2 * [("open", "opened")])]
-        for asked, told in ((MULTI, OK), (GET, QUEUED), (SET_W, QUEUED)):
-            calls += [fed(0, asked), ("step 0", done(told))]
-        calls += [fed(1, texts("REPLICAOF h 1")), ("step 1", "done sf %s -" % OK.hex())]
-        calls += [fed(0, GET + EXEC), ("step 0", done(QUEUED)), ("step 0", done(array_of(bulk("v"), READONLY, bulk("v"))))]
-        self.rehearses([*calls, ("shows", "shows %s 0" % ID)])
+
+# as what a node begins, how it is told to be the other, what that gives out, and which id it shows then
+OBEYS = "master", texts("REPLICAOF h 1"), "sf", ID
+IS_PROMOTED = "replica", LEAD, "su", "%040x" % 1
+
+
+class OverRoles(Rehearsing):
+    """A transaction in which the role of its node changes, by another client's REPLICAOF: a master obeys, or a replica is promoted."""
+
+    def asks(self, rows):
+        """The calls that ask these of the first link. A row has the reply, and the effects if there are any."""
+        return [call for line, *told in rows for call in (fed(0, line), ("step 0", done(*told)))]
+
+    def are_answered(self, change, before, after):
+        """On a node that holds one key a transaction is begun, and these are asked before the change and behind it."""
+        start, asked, outs, id = change
+        calls = [*holding("SET k v"), (start, "started"), *(2 * [("open", "opened")]), *self.asks([(MULTI, OK), *before])]
+        calls += [fed(1, asked), ("step 1", "done %s %s -" % (outs, OK.hex())), *self.asks(after)]
+        grown = sum(len(effects) for _, _, *told in after for effects in told)
+        self.rehearses([*calls, ("step 0", "idle"), ("shows", "shows %s %d" % (id, grown))])
+
+    def for_both(self, before, after):
+        for change in (OBEYS, IS_PROMOTED):
+            with self.subTest(begins=change[0]):
+                self.are_answered(change, before, after)
+
+    def test_what_is_refused_at_once_marks(self):
+        """Also what isn't allowed there, behind the change as before it; and what was marked before stays so."""
+        end = [(EXEC, ABORTED), (GET, bulk("v")), (EXEC, EXEC_ALONE)]
+        for line, told in REFUSED:
+            with self.subTest(line=line):
+                self.for_both([(GET, QUEUED), (texts(line), told)], [(GET, QUEUED), *end])
+                self.for_both([(GET, QUEUED)], [(texts(line), told), (GET, QUEUED), *end])
+
+    def test_what_is_told_at_the_end(self):
+        """Faults that wait, from before the change and from behind it."""
+        rows, told = [*((texts(line), QUEUED) for line, _ in FAULTY), (GET, QUEUED)], array_of(*(told for _, told in FAULTY), bulk("v"))
+        for cut in (0, 6, len(rows)):
+            self.for_both(rows[:cut], [*rows[cut:], (EXEC, told), (EXEC, EXEC_ALONE)])
+
+    def test_one_within_one_is_refused_and_it_goes_on(self):
+        rows = [(MULTI, NESTED), (GET, QUEUED)]
+        self.for_both(rows, [*rows, (EXEC, array_of(bulk("v"), bulk("v"))), (EXEC, EXEC_ALONE)])
+
+    def test_what_is_discarded(self):
+        """What waits is, and so is a mark."""
+        discarded, alone = (texts("DISCARD"), OK), [(EXEC, EXEC_ALONE), (texts("DISCARD"), DISCARD_ALONE)]
+        self.for_both([(GET, QUEUED)], [discarded, *alone, (GET, bulk("v"))])
+        self.for_both([(texts("GET"), arity("get"))], [discarded, *alone, (MULTI, OK), (GET, QUEUED), (EXEC, array_of(bulk("v")))])
+        self.are_answered(OBEYS, [(SET_W, QUEUED)], [discarded, *alone, (GET, bulk("v"))])
+
+    def test_writes_of_a_master_that_obeys(self):
+        """Those that wait are refused at their places, and do nothing; those that come behind the change are refused at once, and mark."""
+        waits = [(GET, QUEUED), *((texts(line), QUEUED) for line in WRITES)]
+        told = array_of(bulk("v"), *(len(WRITES) * [READONLY]), bulk("v"))
+        self.are_answered(OBEYS, waits, [(GET, QUEUED), (EXEC, told), (GET, bulk("v"))])
+        for line in WRITES:
+            with self.subTest(line=line):
+                self.are_answered(OBEYS, waits, [(texts(line), READONLY), (GET, QUEUED), (EXEC, ABORTED), (GET, bulk("v"))])
+
+    def test_writes_of_a_replica_that_is_promoted(self):
+        """Those from before are refused at once, and mark: that stays over the promotion. Those that come behind it wait, and are done."""
+        for line in WRITES:
+            with self.subTest(line=line):
+                self.are_answered(IS_PROMOTED, [(texts(line), READONLY)], [(SET_W, QUEUED), (EXEC, ABORTED), (GET, bulk("v")), (SET_W, OK, SET_W)])
+        rows = [(SET_A, QUEUED), (SET_B, QUEUED), (EXEC, array_of(bulk("v"), OK, OK), PAIR), (texts("DBSIZE"), number(3))]
+        self.are_answered(IS_PROMOTED, [(GET, QUEUED)], rows)
 
 
 if __name__ == "__main__":

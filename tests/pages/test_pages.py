@@ -1,5 +1,5 @@
-"""The pages: each file that one of them links to or names is there; each edit stands in its crate's table, and each named edit is one; lines of prose are short.
-Beside them each function of a crate says what it is for."""
+"""The pages: each file that one of them links to or names is there; each file of code stands in its crate's page, each edit in its crate's table, and each named edit is
+one; tables have the crates in their order; lines of prose are short. Beside them each function of a crate says what it is for."""
 
 import glob
 import os
@@ -113,6 +113,21 @@ class Crates(unittest.TestCase):
                 bad.append(page)
         self.assertEqual(bad, [])
 
+    def test_each_file_of_code_stands_in_the_page_of_its_crate(self):
+        """But for files that only declare a type, and the programs for tests."""
+        texts, lost = pages(), []
+        for path in found("crates/m*/src/**/*.rt"):
+            crate, name = re.fullmatch(r"crates/(\w+)/src/(.*)", path).groups()
+            if name not in ("lib.rt", "main.rt") and re.search(r"\bfn \w", read(path)) and f"`{name}`" not in texts[f"crates/{crate}/README.md"]:
+                lost.append((crate, name))
+        self.assertEqual(lost, [])
+
+    def test_tables_have_the_crates_lowest_first(self):
+        crates = crates_in(read("crates.txt"))
+        rows = re.findall(r"^\| (`[^|]*`) \|", read("docs/ARCHITECTURE.md").split("\n## The crates\n")[1].split("\n## ")[0], re.M)
+        self.assertEqual(re.findall(r"\w+", " ".join(rows)), crates)
+        promising = re.findall(r"^\| \[`(\w+)`\]", read("docs/PROMISES.md"), re.M)
+        self.assertEqual(promising, [it for it in crates if it in promising])
 
     def test_each_crate_that_a_page_names_is_there(self):
         crates = crates_in(read("crates.txt"))
@@ -175,6 +190,15 @@ class Prose(unittest.TestCase):
     def test_no_line_is_longer_than_120_columns(self):
         long = [(page, number, len(line)) for page, text in pages().items() for number, line in prose(text).items() if len(line) > COLUMNS]
         self.assertEqual(long, [])
+
+    def test_decisions_are_told_in_words(self):
+        """Without the names of functions, laws and edits, which change; crates keep theirs."""
+        named = re.findall(r"`([a-z]+_\w+|\w+::\w+)`", "\n".join(prose(read("docs/DECISIONS.md")).values()))
+        self.assertEqual([it for it in named if it not in crates_in(read("crates.txt"))], [])
+
+    def test_readme_names_the_kit_that_the_tree_landed_with(self):
+        landed = re.search(r"^kit: (\S+)", read("tests/landed.txt"), re.M)[1]
+        self.assertEqual(re.findall(r"\brattle-kit-\w+", read("README.md")), [landed])
 
     def test_tables_and_code_are_no_prose(self):
         text = "one\n\n    code\n    more\n\n- two\n    goes on\n\n| a |\n|---|\n\n```text\nthree\n```\nfour"

@@ -191,7 +191,7 @@ class Promotion(Replicating):
         self.comes(lambda: b"connected" not in node.asks("ROLE"))
         new = self.promoted(node)
         replica = b"replica of %s:%d, " % (HOST.encode(), master.port)
-        copied = [b"not in its stream", b"whole copy begins", b"whole copy of 27 bytes in S s", b"in its stream at offset %d" % found.shows[1]]
+        copied = [b"not in its stream", b"whole copy begins", b"whole copy of 1 keys, 27 bytes, in S s", b"in its stream at offset %d" % found.shows[1]]
         told = [replica + it for it in (*copied, b"link lost in its stream", b"not in its stream")]
         # it is dialled again until then
         noticed = [LENGTH.sub(b"in S s", it) for it in node.told()[1:] if not it.endswith(UNREACHED)]

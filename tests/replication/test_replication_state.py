@@ -3,7 +3,8 @@
 import unittest
 
 from tests.support.handshake import ANSWERS, CAPABILITIES, GREETED, NOTHING_TO_CONTINUE, PORT
-from tests.support.program import request
+from tests.support.program import built, request
+from tests.support.refusing import Refusing as EachRefused
 from tests.support.rehearsal import effect
 from tests.support.replies import CHAINED
 from tests.support.requests import EXEC, MULTI, PAIR, SET_A, SET_B, framed
@@ -172,6 +173,19 @@ class Turning(Playing):
         again = [("promote " + C, "promoted"), stands("master", "offers", C, 54, 55, A + " 55"), holds(THIRD)]
         self.plays("course", [*self.promoted(), *back, *again])
 
+    def test_a_copy_that_breaks_off_leaves_both_ids(self):
+        """The promoted one obeys another master, whose whole copy breaks off at any byte: it shows both ids with their offsets, and asks for what is behind its own again."""
+        line, courses = b"+FULLRESYNC %s 81\r\n" % C.encode(), []
+        sent = line + b"$%d\r\n" % len(THIRD) + THIRD
+        begin = [*self.promoted(), ("obey", "obeys"), *dialled(1, asking(B, 54))]
+        for cut in range(len(sent)):
+            taken, phase, unread = ([heard("announced")], "snapshot", cut - len(line)) if cut >= len(line) else ([], "psync", cut)
+            broken = [fed(sent[:cut]), *taken, heard("idle"), stands("replica", "offers", B, 54, 28, A + " 28", "at 0 1 " + phase, unread), holds(FIRST)]
+            left = [("leave", "left"), stands("replica", "offers", B, 54, 28, A + " 28"), holds(FIRST)]
+            whole = [*dialled(2, asking(B, 54)), *taking(C, 81, THIRD), stands("replica", "offers", C, 81, 82, reads="at 0 2 stream"), holds(THIRD)]
+            courses.append([*begin, *broken, *left, *whole])
+        self.plays("course", *courses)
+
     def test_who_has_all_goes_on_without_bytes(self):
         old = [("master %s %d 27" % (A, CAPACITY), "begun"), ("grow " + spelled(THIRD), "grown"), ("obey", "obeys"), *dialled(0, asking(A, 54))]
         goes_on = [fed(b"+CONTINUE %s\r\n" % C.encode()), heard("continues"), heard("idle")]
@@ -182,6 +196,72 @@ class Turning(Playing):
 
     def test_a_replica_that_has_something_offers_it_at_once(self):
         self.plays("course", [("offering %s %d 27" % (A, CAPACITY), "begun"), *dialled(0, asking(A, 27))])
+
+
+IDLE = heard("idle")
+# what a step is answered that lacked memory, and one within which it ran out
+LACKS, SPENT = "refuses: out of memory", "refuses: the dataset is spent: out of memory, or a group that does not apply as a whole"
+# the commands of a copy, with words that have memory of their own, and places within each of them
+LONG = "x" * 40
+COPIED = [effect(line % LONG) for line in ("HSET h f %s", "SET k %s", "RPUSH l a %s", "SADD s m %s", "ZADD z 1 %s")]
+COPY = b"".join(COPIED)
+WITHIN = [sum(map(len, COPIED[:count])) + 30 for count in range(len(COPIED))]
+
+
+class Lacking(EachRefused):
+    """Each allocation refused in turn, as a whole copy takes the place of another, in pieces that end within an effect, with a step behind each."""
+
+    # up to the copy, with a step more than each answer takes, for one that lacked memory
+    BEGIN = [
+        *[("replica %s %d 0" % (B, CAPACITY), "begun"), *dialled(0, NOTHING_TO_CONTINUE), IDLE, *taking(A, 27, FIRST), IDLE, ("leave", "left")],
+        *[*dialled(1, asking(A, 27)), IDLE, fed(b"+FULLRESYNC %s 5\r\n$%d\r\n" % (C.encode(), len(COPY))), heard("announced"), IDLE, IDLE],
+    ]
+
+    def courses(self):
+        """In each two pieces come of the copy, of which the first goes on to within an effect, and the second to within the next or to the end."""
+        for first, second in zip(WITHIN, [*WITHIN[1:], len(COPY)]):
+            held = [stands("replica", "offers", A, 27, 28, reads="at 0 1 snapshot", unread=len(b"$%d\r\n" % len(COPY)) + it) for it in (first, second)]
+            steps = [*self.BEGIN, fed(COPY[:first]), IDLE, held[0], holds(FIRST), fed(COPY[first:second])]
+            if second < len(COPY):
+                yield [*steps, IDLE, held[1], holds(FIRST)]
+            else:
+                yield [*steps, heard("loads", COPY), stands("replica", "offers", C, 5, 6, reads="at 0 1 stream"), holds(COPY)]
+
+    def test_what_was_held_is_shown_until_the_copy_is_whole(self):
+        """Also where memory lacks or runs out within it: behind that step dataset, id and offset are the old ones."""
+        courses = list(self.courses())
+        script = "".join("course " + ";".join(step for step, _ in steps) + "\n" for steps in courses).encode()
+        refused = set()
+
+        def check(ran, was_refused):
+            if ran.returncode:
+                self.assertEqual((was_refused, ran.stdout, ran.stderr), (True, b"", b"rehearse_values: out of memory\n"))
+                return
+            answers = iter(ran.stdout.decode().splitlines())
+            for number, steps in enumerate(courses):
+                wanted, got = [it for _, it in steps], [next(answers) for _ in steps]
+                at = next((at for at, it in enumerate(got) if it != wanted[at]), None)
+                if at is not None:
+                    self.assertTrue(was_refused)
+                    self.assertIn(got[at], (LACKS, SPENT))
+                    if at > len(self.BEGIN):
+                        self.look(got, wanted, at)
+                        refused.add((number, got[at]))
+            self.assertIsNone(next(answers, None))
+
+        self.assertGreater(self.each_refusal(script, check, built("rehearse_values")), 100)
+        self.assertEqual(refused, {(number, why) for number in range(len(courses)) for why in (LACKS, SPENT)})
+
+    def look(self, got, wanted, at):
+        """Looks behind the step of the copy that was refused."""
+        shown, made = got[at + 1 : at + 3]
+        # what was taken of a copy that is spent is unread no more
+        self.assertRegex(shown, r"\Ashows replica offers %s 27 28 at 0 1 snapshot \d+\Z" % A)
+        self.assertEqual(made, holds(FIRST)[1])
+        if got[at] == LACKS and wanted[at] == IDLE[1]:
+            self.assertEqual(shown, wanted[at + 1])
+            # the next step takes what this one left
+            self.assertEqual(got[-2:], wanted[-2:])
 
 
 if __name__ == "__main__":

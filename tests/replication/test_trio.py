@@ -3,10 +3,12 @@
 import os
 import random
 import re
+import resource
 import subprocess
 import unittest
 
-from tests.support.program import LATE, LAUNCHER, run
+from tests.support.program import LATE, LAUNCHER, PROGRAM, run
+from tests.support.refusing import Refusing
 from tests.support.replies import ABORTED, QUEUED, READONLY, array, number
 
 # what the program says last of a node
@@ -187,6 +189,49 @@ class Streams(Trio):
             ended = run(b"", "trio", *words)
             self.assertEqual((ended.returncode, ended.stdout), (1, b""))
             self.assertTrue(ended.stderr.startswith(b"minired: "))
+
+
+class Lacking(Refusing):
+    """Runs that lack memory or descriptors: how each of them ends, what it says on standard error, and whether a line was late."""
+
+    SCRIPT = b"1 SET k v\n2 REPLICAOF node 1\n2 GET k\n"
+    # a node stopped, or the trio found no memory; a socket's call failed; a node lacked it for a link, so that nobody answers there
+    STOPPED, FAILED, UNANSWERED = (3, b"minired: out of memory\n", False), (2, b"minired: socket failed\n", False), (2, b"", True)
+    DONE = (0, b"", False)
+
+    def setUp(self):
+        super().setUp()
+        self.ample = run(self.SCRIPT, "trio").stdout
+        self.assertEqual(self.ample.count(b"\n"), 6)
+
+    def ended(self, ran):
+        """How it ended. What it has told is a beginning of what it tells where nothing lacks, whole lines."""
+        told = ran.stdout.removesuffix(b"late\n")
+        self.assertEqual(told, self.ample[: len(told)])
+        self.assertEqual(told, self.ample if ran.returncode == 0 else told[: told.rfind(b"\n") + 1])
+        return ran.returncode, ran.stderr, told != ran.stdout
+
+    def test_memory(self):
+        """Each allocation refused in turn. Where a socket can't be made or opened for it, that is told as of sockets."""
+        ends = set()
+
+        def check(ran, was_refused):
+            end = self.ended(ran)
+            self.assertIn(end, (self.DONE, self.STOPPED, self.FAILED, self.UNANSWERED))
+            self.assertTrue(was_refused or end == self.DONE)
+            ends.add(end)
+
+        self.assertGreater(self.each_refusal(self.SCRIPT, check, PROGRAM, "trio"), 100)
+        self.assertEqual(ends, {self.DONE, self.STOPPED, self.FAILED, self.UNANSWERED})
+
+    def test_descriptors(self):
+        """Too few for four listeners and for the client's links; where only the other end of a link lacks one, the line is late."""
+        rows = [*[(most, self.FAILED, 0) for most in range(4, 12)], (12, self.UNANSWERED, 0), (13, self.FAILED, 1), (14, self.UNANSWERED, 1), (100, self.DONE, 6)]
+        for most, end, lines in rows:
+            with self.subTest(most=most):
+                few = lambda: resource.setrlimit(resource.RLIMIT_NOFILE, (most, most))
+                ran = subprocess.run([PROGRAM, "trio"], input=self.SCRIPT, capture_output=True, timeout=LATE, preexec_fn=few)
+                self.assertEqual((self.ended(ran), ran.stdout.removesuffix(b"late\n").count(b"\n")), (end, lines))
 
 
 class Many(Trio):

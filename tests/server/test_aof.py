@@ -841,13 +841,17 @@ class KillingRewriting(OfFile):
         self.assertEqual(self.bytes(), new)
 
 
-class Leaving(OfFile):
-    """redis-server loads the file, where it is installed: a user can always leave."""
+class BesideRedis(Loading):
+    """A redis-server over the file, where it is installed."""
 
-    def served(self):
+    def setUp(self):
+        needs(self, shutil.which("redis-server"), "redis-server")
+        super().setUp()
+
+    def served(self, *more):
         """The socket of a redis-server that has loaded the file, and moved it into a folder of its own."""
         socket = os.path.join(self.folder, "redis")
-        words = ["--port", "0", "--unixsocket", socket, "--dir", self.folder, "--appendonly", "yes", "--appendfilename", "data.aof", "--save", ""]
+        words = ["--port", "0", "--unixsocket", socket, "--dir", self.folder, "--appendonly", "yes", "--appendfilename", "data.aof", "--save", "", *more]
         server = subprocess.Popen(["redis-server", *words], stdout=subprocess.DEVNULL)
         self.addCleanup(server.wait)
         self.addCleanup(server.kill)
@@ -859,8 +863,19 @@ class Leaving(OfFile):
     def told(self, socket, *words):
         return subprocess.run(["redis-cli", "-s", socket, "--no-raw", *words], capture_output=True, text=True, timeout=LATE).stdout
 
+    def replies(self, socket, data, wanted):
+        """It is sent these bytes, and replies so."""
+        with connection.socket(connection.AF_UNIX) as client:
+            client.settimeout(LATE)
+            client.connect(socket)
+            client.sendall(data)
+            self.assertEqual(client.makefile("rb").read(len(wanted)), wanted)
+
+
+class Leaving(BesideRedis):
+    """redis-server loads the file: a user can always leave."""
+
     def test_redis_server_loads_the_file(self):
-        needs(self, shutil.which("redis-server"), "redis-server")
         asked = [
             ("SET", "text", "a value\r\n"), ("HSET", "hash", "f", "1", "g", "2"), ("RPUSH", "list", "a", "b", "c"), ("LPOP", "list"),
             ("SADD", "set", "m", "n"), ("SREM", "set", "m"), ("ZADD", "zset", "3", "x", "-1", "y"), ("ZINCRBY", "zset", "5", "y"),
@@ -873,7 +888,6 @@ class Leaving(OfFile):
                 self.assertEqual(self.told(socket, *words), wanted)
 
     def test_redis_server_loads_a_file_of_groups(self):
-        needs(self, shutil.which("redis-server"), "redis-server")
         self.write(SET + PAIR + framed(request("DEL", "k"), request("RPUSH", "l", "x", "y"), request("LPOP", "l", "1")) + SET_W)
         asked = {("MGET", "a", "b", "k"): '1) "1"\n2) "2"\n3) "w"\n', ("LRANGE", "l", "0", "-1"): '1) "y"\n', ("DBSIZE",): "(integer) 4\n"}
         self.answers(request("MGET", "a", "b", "k") + request("LRANGE", "l", "0", "-1") + request("DBSIZE"), array("1", "2", "w") + array("y") + b":4\r\n")
@@ -883,18 +897,47 @@ class Leaving(OfFile):
                 self.assertEqual(self.told(socket, *words), wanted)
 
     def test_redis_server_loads_a_file_written_anew(self):
-        needs(self, shutil.which("redis-server"), "redis-server")
         made = RandomKeys(random.Random(17))
         self.asked(made.commands() + REWRITE + request("SET", "last", "v"))
         questions = made.questions() + request("GET", "last") + request("DBSIZE")
         ran = self.asked(questions)
         self.assertEqual((ran.returncode, ran.stderr, ran.stdout.count(NIL)), (0, b"", 0))
-        with connection.socket(connection.AF_UNIX) as client:
-            client.settimeout(LATE)
-            client.connect(self.served())
-            client.sendall(questions)
-            told = client.makefile("rb").read(len(ran.stdout))
-        self.assertEqual(told, ran.stdout)
+        self.replies(self.served(), questions, ran.stdout)
+
+
+class Annotated(BesideRedis):
+    """Files in which the time of what was done stands as `#TS:` and a number, as redis-server puts it there where it is asked to."""
+
+    QUESTIONS = request("MGET", "a", "b", "k", "late") + request("PEXPIRETIME", "late") + request("LRANGE", "l", "0", "-1") + request("HGETALL", "h") + request("DBSIZE")
+    HELD = array("1", "2", "w", "v") + b":%d\r\n" % FAR + array("x", "y") + array("f", "v") + b":6\r\n"
+    # in seconds of their own, with the replies
+    WRITES = [
+        (SET + request("RPUSH", "l", "x", "y") + request("HSET", "h", "f", "v"), OK + b":2\r\n:1\r\n"),
+        (MULTI + SET_A + SET_B + EXEC, OK + 2 * QUEUED + array_of(OK, OK)),
+        (SET_W + request("SET", "late", "v", "PXAT", str(FAR)), OK + OK),
+    ]
+
+    def test_a_file_that_redis_server_annotated(self):
+        """But for the one SELECT, which is no effect, it is loaded whole."""
+        socket = self.served("--aof-timestamp-enabled", "yes", "--aof-use-rdb-preamble", "no")
+        for asked, told in self.WRITES:
+            time.sleep(1.1)
+            self.replies(socket, asked, told)
+        self.replies(socket, self.QUESTIONS, self.HELD)
+        with open(os.path.join(self.folder, "appendonlydir", "data.aof.1.incr.aof"), "rb") as file:
+            written = file.read()
+        self.assertEqual((written.count(request("SELECT", "0")), written.count(b"#TS:")), (1, len(self.WRITES)))
+        self.loads(written.replace(request("SELECT", "0"), b""), self.HELD, self.QUESTIONS)
+
+    def test_redis_server_loads_an_annotated_file(self):
+        """Of minired's, with a time in front of what was done in each second, and one behind all."""
+        written = b""
+        for at, (asked, told) in enumerate(self.WRITES):
+            self.write(b"")
+            self.answers(asked, told)
+            written += b"#TS:%d\r\n" % (1_700_000_000 + at) + self.bytes()
+        self.loads(written + b"#TS:1700000009\r\n", self.HELD, self.QUESTIONS)
+        self.replies(self.served(), self.QUESTIONS, self.HELD)
 
 
 # as redis-cli prints them

@@ -11,9 +11,9 @@ from tests.support.handshake import GREETED, GREETS, NOTHING_TO_CONTINUE, announ
 from tests.support.peers import Ended
 from tests.support.program import LATE, request
 from tests.support.refusing import Refusing
-from tests.support.replies import COUNT, OK, QUEUED, STARTED, array_of
+from tests.support.replies import COUNT, OK, PONG, QUEUED, STARTED, array_of
 from tests.support.requests import LEAD, PING, SET, SET_W, SET_X, framed
-from tests.support.turns import ENDS, NOT_READY, OBEY, File, Links, Loop, peer
+from tests.support.turns import ALL, ENDS, NOT_READY, OBEY, File, Links, Loop, peer
 
 EXPIRES, EXPIRED, DELETED = request("SET", "e", "v", "PX", "5"), request("SET", "e", "v", "PXAT", "5"), request("DEL", "e")
 # the key in a whole copy
@@ -203,6 +203,25 @@ class Lacking(Refusing):
 
         self.assertGreater(self.each(plays), 100)
         self.assertEqual(ends, {"served", *FAULTS})
+
+    def test_nothing_more_is_written_where_what_was_read_is_lost(self):
+        """A reply waits as a part of the next request comes, for which memory lacks: the link closes, and isn't given the reply, which it would take by now. A step
+        that finds no whole request takes no memory."""
+        comes, states = peer(PING, b"*1\r\n$60000\r\n" + 60_000 * b"x", takes=[NOT_READY, ALL]), set()
+
+        def plays(loop, is_refused):
+            self.assertEqual(loop.start(accepts=[comes]), "started")
+            loop.call("turn")
+            is_late, told = is_refused(), loop.call("turn").split(" ")[0]
+            if is_late or told != "turned":
+                return
+            link = loop.links().accepted[0]
+            self.assertEqual(link.written, b"" if link.state == "closed" else PONG)
+            states.add((is_refused(), link.state))
+
+        self.assertGreater(self.each(plays), 10)
+        self.assertIn((True, "closed"), states)
+        self.assertIn((False, "open"), states)
 
 
 if __name__ == "__main__":

@@ -106,12 +106,15 @@ class Lines(unittest.TestCase):
             (b"'a\\nb\\\\c'\n", b"a\\nb\\\\c"),
             (b"d\\n\n", b"d\\n"),
             (b"\\x41\n", b"\\x41"),
+            (b'"\\a\\b"\n', b"ab"),
             (b"\0\n", b"\0"),
+            (b"a\0b\n", b"a\0b"),
             (b"*\n", b"*"),
         ):
             with self.subTest(line=line):
                 self.answers(b"ECHO " + line, bulk(word))
         self.answers(b" \tECHO \x0b\x0ckey \n", bulk("key"))
+        self.answers(b"MGET a\x0bb\x0cc \"d\x0be\x0c\"\n", array(None, None, None, None))
         self.answers(b"MGET \"a \\x41\" 'b\\'c' d\r\n", array(None, None, None))
 
     def test_blank_lines_have_no_reply(self):

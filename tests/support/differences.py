@@ -34,6 +34,11 @@ NO_LIMIT = b"-ERR syntax error, LIMIT is only supported in combination with eith
 NO_SETINFO = b"-ERR unknown subcommand 'SETINFO'. Try CLIENT HELP.\r\n"
 NO_DATABASE = b"-ERR DB index is out of range\r\n"
 NO_SUM = b"-ERR resulting score is out of range\r\n"
+NO_OPTION = b"-ERR Unsupported option FOO\r\n"
+NX_AND_OTHERS = b"-ERR NX and XX, GT or LT options at the same time are not compatible\r\n"
+GT_AND_LT = b"-ERR GT and LT options at the same time are not compatible\r\n"
+NO_NAME = b"-ERR Client names cannot contain spaces, newlines or special characters.\r\n"
+NO_PORT = b"-ERR Invalid master port\r\n"
 NO_EXEC = b"-EXECABORT Transaction discarded because of: wrong number of arguments for 'exec' command\r\n"
 
 WINDOW = "a last place in front of the first one is no place; the text is `hello`"
@@ -44,19 +49,33 @@ FINITE = "scores are finite"
 WITHIN = "scores are at most 2^53 from 0"
 EXCLUDE = "one text for options that exclude one another"
 ITSELF = "there is no text of its own for it"
+CLASS = "; the keys are `-` and `b`"
+PORT = "a port that is none has no text of its own"
+ALONE = "one of NX, XX, GT and LT stands alone"
 
 # a request's letters may be large or small where no key has both
 ROWS = [
     Row("CLIENT", arity("client"), SYNTAX, ITSELF),
     Row("CLIENT LIST", None, SYNTAX, "CLIENT has SETNAME and SETINFO alone", shown="its clients"),
     Row("CLIENT SETINFO lib-name me", NO_SETINFO, OK, "later versions of Redis have it, and clients ask for it"),
+    Row("CLIENT SETNAME é", NO_NAME, OK, "no name is kept"),
     Row("COMMAND", None, NONE, "it is answered for clients that ask it at their start", shown="what it knows of each command"),
     Row("COMMAND DOCS get set", None, NONE, "it is answered for clients that ask it at their start", shown="what it knows of both"),
     Row("EXEC x", NO_EXEC, arity("exec"), "a transaction that is open stays so, and is marked; Redis ends it"),
+    Row("EXPIRE k 10 FOO", NO_OPTION, SYNTAX, ITSELF),
+    Row("EXPIRE k 10 GT LT", GT_AND_LT, SYNTAX, EXCLUDE),
+    Row("EXPIRE k 10 NX GT", NX_AND_OTHERS, SYNTAX, EXCLUDE),
+    Row("EXPIRE k 10 NX NX", number(1), SYNTAX, TWICE, ("PERSIST k",)),
+    Row("EXPIRE k 10 XX GT", number(0), SYNTAX, ALONE),
     Row("GETRANGE k -100 -100", bulk("h"), bulk(""), WINDOW),
     Row("GETRANGE k 0 -6", bulk("h"), bulk(""), WINDOW),
+    Row("KEYS [a-]", NONE, array("-"), "a `-` in front of the closing `]` stands for itself" + CLASS),
+    Row("KEYS [\\a-c]", array("-"), array("b"), "a range may begin at a byte behind `\\`" + CLASS),
+    Row("KEYS [a-\\c]", NONE, array("b"), "a range may end at a byte behind `\\`" + CLASS),
     Row("LINDEX x a", NIL, INTEGER, FIRST),
     Row("LSET x a z", NO_KEY, INTEGER, FIRST),
+    Row("REPLICAOF h 70000", NO_PORT, INTEGER, PORT),
+    Row("REPLICAOF h x", NO_PORT, INTEGER, PORT),
     Row("SCAN -1", None, CURSOR, "a cursor isn't below 0", shown="the keys of a part of its table"),
     Row("SCAN 5", None, b"*2\r\n" + bulk("0") + NONE, "all keys are named at cursor 0", shown="the keys of a part of its table"),
     Row("SELECT 1", OK, NO_DATABASE, "there is one database", ("SELECT 0",)),

@@ -314,6 +314,10 @@ class Rows:
         script.asks(link, "REPLCONF ACK 20", b"")
         role = array_of(bulk("::1"), bulk("6379"), bulk("20"))
         script.asks(0, "ROLE", array_of(bulk("master"), number(27), array_of(role)))
+        # the last one is told, also where it goes back
+        script.asks(link, "REPLCONF ACK -5", b"")
+        role = array_of(bulk("::1"), bulk("6379"), bulk("-5"))
+        script.asks(0, "ROLE", array_of(bulk("master"), number(27), array_of(role)))
         # anything else closes the link
         script.asks(link, "PING", b"")
         script.line("step %d b 0 0 1" % link, "refused 2")

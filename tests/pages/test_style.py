@@ -1,0 +1,151 @@
+"""The measures of the house: how many functions a crate has, how long files and functions are, which names stand twice and where lemmas stand. What is past a measure
+stands in EXCUSED, with how far it may go: so that none grows unseen."""
+
+import glob
+import os
+import re
+import unittest
+
+from tests.sources import FUNCTION, Sources
+from tests.support.program import ROOT
+
+# how many functions a crate has at most, and how many rows a file, and the body of a function
+FUNCTIONS, ROWS, BODY = 100, 800, 39
+EXCUSED = {
+    "functions": {
+        "rehearse_values": 201,  # a program for tests: calls on each kind of value
+        "mr_order": 153,  # one structure in levels, and its searches
+        "minired": 125,  # what a program does with what it is handed, of four kinds
+        "mr_value": 118,  # lists, hashes, sets and their bytes: kinds of one value
+        "mr_node": 115,  # each call on a node, by the one invariant below it
+        "mr_loop": 114,  # a turn, whose steps share one clause
+        "mr_entries": 102,  # what each effect makes of each kind of value
+    },
+    "rows": {
+        "crates/mr_history_example/specs/Troubles.antt": 850,  # a run, moment by moment
+        "tests/support/world_rows.py": 1100,  # a table
+        "tests/server/test_aof.py": 1000,  # the file in all that can happen to it
+        "tests/server/test_serve.py": 900,  # the server, likewise
+    },
+    # of each but `next` a row for each command, effect, name or fault
+    "bodies": {
+        "mr_groups owning::owned_effect": 168,
+        "mr_arguments name::Name::of_length": 121,
+        "mr_arguments name::Name::text": 114,
+        "mr_arguments fault::wrong_count": 114,
+        "mr_ask reading::read_arguments": 114,
+        "mr_effect encoding::push_effect": 77,
+        "mr_outs out::OutsIterIterator::next": 70,  # each place at which something may be given out
+        "mr_entries entries::Entries::copy": 60,
+        "mr_entries entries::Entries::take": 58,
+        "mr_cmd_zset planning::change": 53,
+        "mr_cmd_key planning::reply_to": 49,
+        "mr_effect effect::Effect::fits": 48,
+        "mr_player asked::asked_by": 46,
+        "mr_cmd_list planning::answer_of": 40,
+    },
+    # a name that a crate exports, as one that it uses does, and why each may
+    "names": {
+        "mr_script Side mr_bytes": "of a link, as scripts call it; there of an item",
+        "mr_carrying Side mr_bytes": "of a link, as the specification calls it; there of an item",
+        "mr_loop Links mr_links": "a loop's, by sockets; there of a node, of any kind",
+        "mr_wire Failed mr_file": "that a wire failed, said in one word as of a file",
+    },
+    # how many lemmas a file of definitions has, since a ghost member or a clause feeds on them
+    "lemmas": {
+        "crates/mr_zset/specs/Limits.antt": 14,
+        "crates/mr_history_example/specs/TinyLaws.antt": 12,
+        "crates/mr_resp/specs/Usual.antt": 8,
+        "crates/mr_carrying/specs/Codes.antt": 1,
+        "crates/mr_ends/specs/State.antt": 1,
+    },
+}
+LOOP = re.compile(r" *(?:'\w+: )?(?:for|while|loop)\b")
+EXPORT = re.compile(r"^pub use (\w+)::([^;]*);", re.M)
+# what begins at the left edge with a name and what it is, and what of it stands on the rows below
+HEAD = re.compile(r"^(?:(?:abbrev|unfoldable|pub) )*([^\s:]+) :((?: .*)?(?:\n +.*)*)", re.M)
+STATES = re.compile(r"[≡≢≤⊥]| < |\bIsTrue\b")
+
+
+def read(path):
+    with open(os.path.join(ROOT, path), encoding="utf-8") as it:
+        return it.read()
+
+
+def found(*patterns):
+    """The files of these patterns, from the top of the repository."""
+    return [os.path.relpath(it, ROOT) for pattern in patterns for it in sorted(glob.glob(os.path.join(ROOT, pattern), recursive=True))]
+
+
+def past(sizes, most, kind):
+    """What is larger than it may be, with its size, and what is excused and needn't be."""
+    excused = EXCUSED[kind]
+    return {it: size for it, size in sizes.items() if size > excused.get(it, most)}, [it for it in excused if sizes.get(it, 0) <= most]
+
+
+def loops_in(rows):
+    return sum(1 for row in rows if LOOP.match(row))
+
+
+def exported(text):
+    """The types that the root file of a crate exports, without those of other crates that it hands on."""
+    return {name for module, names in EXPORT.findall(text) if not module.startswith("mr_") for name in re.findall(r"\b[A-Z]\w*[a-z]\w*\b", names)}
+
+
+def lemmas_in(text):
+    """The definitions of a file that state something: what they come to is an equation, an order, a test that is true or what never is."""
+    plain = re.sub(r"(?:^|(?<=\s))--.*", "", text)
+    return [name for name, what in HEAD.findall(plain) if STATES.search(what.split("→")[-1]) and "Type" not in what]
+
+
+class Style(unittest.TestCase):
+    @classmethod
+    def setUpClass(cls):
+        lines = [it.split("#")[0].partition(":") for it in read("crates.txt").split("\n")]
+        cls.uses = {name: below.split() for name, _, below in lines if name.strip()}
+        cls.sources = {it: Sources(os.path.join(ROOT, "crates", it)) for it in cls.uses}
+
+    def bodies(self):
+        """The rows of each function's body."""
+        for crate, sources in self.sources.items():
+            for path, text in sources.texts.items():
+                rows = text.split("\n")
+                yield from ((f"{crate} {it.name}", rows[it.opening + 1 : it.closing]) for it in sources.functions(path))
+
+    def test_no_crate_has_many_functions(self):
+        heads = {crate: sum(1 for text in it.texts.values() for row in text.split("\n") if FUNCTION.match(row)) for crate, it in self.sources.items()}
+        self.assertEqual(past(heads, FUNCTIONS, "functions"), ({}, []))
+
+    def test_no_file_is_long(self):
+        files = found("crates/*/src/**/*.rt", "crates/*/specs/**/*.antt", "crates/*/proofs/**/*.antt", "tests/**/*.py", "tools/*.py", "bench/*.py")
+        self.assertEqual(past({it: read(it).count("\n") for it in files}, ROWS, "rows"), ({}, []))
+
+    def test_no_function_is_long(self):
+        self.assertEqual(past({it: len(rows) for it, rows in self.bodies()}, BODY, "bodies"), ({}, []))
+
+    def test_no_function_has_two_loops(self):
+        self.assertEqual([it for it, rows in self.bodies() if loops_in(rows) > 1], [])
+
+    def test_no_crate_exports_a_name_of_one_that_it_uses(self):
+        types = {it: exported(read(path)) for it in self.uses for path in found(f"crates/{it}/src/lib.rt")}
+        twice = [f"{it} {name} {low}" for it, below in self.uses.items() for low in below for name in sorted(types.get(it, set()) & types.get(low, set()))]
+        self.assertEqual(sorted(twice), sorted(EXCUSED["names"]))
+
+    def test_lemmas_stand_in_proofs(self):
+        self.assertEqual(past({it: len(lemmas_in(read(it))) for it in found("crates/*/specs/**/*.antt")}, 0, "lemmas"), ({}, []))
+
+
+class Measures(unittest.TestCase):
+    def test_what_is_a_loop(self):
+        self.assertEqual(loops_in(["    for x in xs {", "        'all: while is_low(x) {", "    loop {", "    formed(x);", "    // for one"]), 3)
+
+    def test_which_types_are_exported(self):
+        self.assertEqual(exported("mod low;\npub use low::{High, LIMIT, low};\npub use mr_low::Low;\npub use one::One;\n"), {"High", "One"})
+
+    def test_what_is_a_lemma(self):
+        text = "abbrev pub IsLow : ℕ → Type 0\nIsLow n = n < 3\n\n-- low\npub low : (n : ℕ) → n < 3\n  → n + 1 < 4 -- too\n\npub record Low (n : ℕ) : Type 0 where\n  pub low : n < 3\nlows : (n : ℕ) → n ≡ 1 → ℕ\n"
+        self.assertEqual(lemmas_in(text), ["low"])
+
+
+if __name__ == "__main__":
+    unittest.main()
