@@ -1,4 +1,4 @@
-.PHONY: build test check-one test-all test-batched test-by-turns bench bench-serve bench-replicas bench-large bench-growth instructions instructions-replicas
+.PHONY: build test check-one test-all test-batched test-by-turns bench bench-serve bench-replicas bench-large bench-words bench-growth instructions instructions-replicas
 
 # The gate that `make test` runs: test-all, test-batched, or test-by-turns.
 GATE = test-by-turns
@@ -40,9 +40,14 @@ bench-serve:
 bench-replicas:
 	python3 -m bench.replicating $(RUNS)
 
-# What single requests on large collections cost `serve`, beside redis-server.
+# What single requests on large collections and with large words cost `serve`, beside redis-server. RUNS="words reply" chooses among
+# collections, words, reply and rewriting.
 bench-large:
-	python3 -m bench.large
+	python3 -m bench.large $(RUNS)
+
+# The most memory that `serve` has behind SET and GET of words of 16 to 512 MiB, and what is left, beside redis-server.
+bench-words:
+	python3 -m bench.words
 
 # What each command costs `serve` on collections of three sizes, beside redis-server. RUNS="LREM DEL" chooses rows by words of their names.
 bench-growth:

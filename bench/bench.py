@@ -228,7 +228,7 @@ def counted(count):
     """INCR of one key."""
 
     def write(file):
-        repeated(file, request(b"INCR", b"k"), count)
+        repeated(file, request(b"INCR", key(0)), count)
         return count, sum(len(b":%d\r\n" % n) for n in range(1, count + 1))
 
     return write
@@ -487,12 +487,12 @@ def followed(room, is_snapshot):
     snapshot = b"$%d\r\n" % len(texts) if is_snapshot else b"$0\r\n"
     answers = b"+PONG\r\n+OK\r\n+OK\r\n+FULLRESYNC %s 0\r\n" % (b"a" * 40) + snapshot
     times = []
-    # with steps behind the pieces, less without them
-    for after in ("", ";step" if is_snapshot else ";run"):
+    # with steps behind the pieces, less each fed to a follower of its own: one that made no steps would keep them all
+    for before, after in ((";begin 0", ""), ("", ";step" if is_snapshot else ";run")):
         with open(path, "w") as file:
             file.write("follower begin 0;feed " + answers.hex() + ";step" * 5)
             for at in range(0, len(texts), PIECE):
-                file.write(";feed " + texts[at : at + PIECE].hex() + after)
+                file.write(before + ";feed " + texts[at : at + PIECE].hex() + after)
             file.write("\n")
         times.append(timed([program], path, out)[0])
     with open(out) as told:

@@ -1,22 +1,26 @@
 """What each command costs `serve` on collections of 1,000, 100,000 and a million, and what redis-server takes for it: `growth.py [WORD..]`.
 
 Each kind of collection has servers of its own, asked over one connection. Told are microseconds of the server's processor time a request, the system's part included, of
-minired and behind a semicolon of Redis, the least of ROUNDS runs; what takes more than 1.5 times Redis' time is bold. WORDs choose rows by words of their names. All rows
-take some ten minutes. Left out are QUIT, SHUTDOWN, REPLICAOF, SLAVEOF, REPLCONF and PSYNC, behind which a link or a server isn't what it was, COMMAND, whose reply is
+minired and behind a semicolon of Redis, the least of ROUNDS runs; what takes more than 1.5 times Redis' time is bold. Before each row one request of it is made that isn't
+counted. WORDs choose rows by words of their names, and SIZES in the environment the sizes. All rows take some twenty minutes a round. Left out are QUIT, SHUTDOWN, REPLICAOF, SLAVEOF, REPLCONF and PSYNC, behind which a link or a server isn't what it was, COMMAND, whose reply is
 another in Redis, and BGREWRITEAOF, for which Redis has another process."""
 
+import functools
+import os
 import random
 import sys
 from typing import NamedTuple
 
-from bench.large import TOGETHER, Played
-from bench.servers import ROUNDS, has_redis, is_chosen, key, least
+from bench.large import TOGETHER, WORDS, Played
+from bench.servers import MIB, ROUNDS, has_redis, is_chosen, key, least
 from tests.support import server
 from tests.support.program import request
 
-SIZES = (1_000, 100_000, 1_000_000)
-# so many requests of a row are made, and where each looks at all of a collection as many as look at so many elements, or make so many
-COUNT, LOOKED_AT, MADE = 2_000, 200_000, 20_000
+SIZES = tuple(map(int, os.environ.get("SIZES", "1000 100000 1000000").split()))
+# so many requests of a row are made, and where each looks at all of a collection as many as look at so many elements, or take away so many
+COUNT, LOOKED_AT, TAKEN = 2_000, 200_000, 20_000
+# but so many at least of those that look at all, and of those that have a copy made for each
+LEAST_OF_ALL, LEAST_OF_COPIES = 10, 3
 # what costs more than so many times what it costs Redis is marked
 MARKED = 1.5
 # all scores that there are
@@ -31,8 +35,9 @@ class Row(NamedTuple):
     after: str = ""
     # what the row is called, where the line's first word doesn't tell it
     name: str = ""
-    # it looks at all of the collection, or takes most of a copy away
+    # it asks for all of the collection, goes over it, or takes most of a copy away
     is_of_all: bool = False
+    goes_over_all: bool = False
     takes_copies: bool = False
 
     def called(self):
@@ -40,8 +45,10 @@ class Row(NamedTuple):
 
     def count(self, size):
         """How many of these requests are made at this size."""
-        if self.is_of_all or self.takes_copies:
-            return max(1, (LOOKED_AT if self.is_of_all else MADE) // size)
+        if self.is_of_all or self.goes_over_all:
+            return max(LEAST_OF_ALL, LOOKED_AT // size)
+        if self.takes_copies:
+            return max(LEAST_OF_COPIES, TAKEN // size)
         return min(COUNT, size // 2)
 
 
@@ -69,7 +76,8 @@ KEYS = [
     of_all("KEYS *"), of_all("SCAN 0"), of_copies("FLUSHALL"), of_copies("FLUSHDB"),
 ]
 TEXTS = [
-    of_all("GET it", "GET of a text"), of_all("GETRANGE it 0 -1", "GETRANGE of a text"), Row("GETRANGE it {place} {to}"), Row("SETRANGE it {place} {value}"),
+    of_all("GET it", "GET of a text"), of_all("GETRANGE it 0 -1", "GETRANGE of a text"), of_all("SET it {text}", "SET of a text"),
+    Row("GETRANGE it {place} {to}"), Row("SETRANGE it {place} {value}"),
     Row("APPEND it {value}"), Row("STRLEN it", name="STRLEN of a text"), of_copies("DEL copy", "DEL of a text"),
 ]
 HASHES = [
@@ -84,7 +92,7 @@ LISTS = [
     Row("LREM it 1 {first}", after="LPUSH it {first}", name="LREM of the first"), Row("LREM it -1 {last}", after="RPUSH it {last}", name="LREM of the last"),
     Row("LPUSH it {value}", after="LPOP it"), Row("RPUSH it {value}", after="RPOP it"), Row("LPUSHX it {value}", after="LPOP it"), Row("RPUSHX it {value}", after="RPOP it"),
     Row("LPOP it", before="LPUSH it {value}"), Row("RPOP it", before="RPUSH it {value}"), Row("LTRIM it 1 -1", before="LPUSH it {value}"),
-    Row("LMOVE it it LEFT RIGHT"), Row("RPOPLPUSH it it"), Row("LSET it {place} {value}"),
+    Row("LMOVE it it LEFT RIGHT"), Row("RPOPLPUSH it it"), Row("RPOPLPUSH same same", name="RPOPLPUSH of equal items", goes_over_all=True), Row("LSET it {place} {value}"),
     of_copies("LTRIM copy 0 0", "LTRIM of all but one"), of_copies("LPOP copy {size}", "LPOP of all"), of_copies("DEL copy", "DEL of a list"),
 ]
 SETS = [
@@ -102,6 +110,7 @@ SORTED_SETS = [
     Row("ZREM it {new}", before="ZADD it {place} {new}"), Row("ZPOPMIN it", before="ZADD it -1 {new}"), Row("ZPOPMAX it", before="ZADD it {size} {new}"),
     Row("ZREMRANGEBYRANK it 0 0", before="ZADD it -1 {new}"), Row("ZREMRANGEBYSCORE it -{value} -{value}", before="ZADD it -{value} {new}"),
     of_copies("ZREMRANGEBYRANK copy 0 -1", "ZREMRANGEBYRANK of all"), of_copies(f"ZREMRANGEBYSCORE copy {SCORES}", "ZREMRANGEBYSCORE of all"),
+    of_copies("ZREMRANGEBYSCORE copy 0 ({quarter}", "ZREMRANGEBYSCORE of a quarter"), of_copies("ZPOPMIN copy {quarter}", "ZPOPMIN of a quarter"),
     of_copies("ZPOPMIN copy {size}", "ZPOPMIN of all"), of_copies("DEL copy", "DEL of a sorted set"),
 ]
 
@@ -119,49 +128,90 @@ def requests(line, size, count):
     """Requests that a line stands for. Names and places are drawn, none twice, and for another line of as many requests are the same."""
     chance, found = random.Random(size), []
     for at, place in enumerate(chance.sample(range(size), count)):
-        words = {"name": name(place), "other": name(chance.randrange(size)), "new": name(size + at), "value": value(at + 1), "place": place, "to": place + 9, "size": size}
-        words |= {"first": name(at), "last": name(size - 1 - at), "middle": name(size // 2)}
+        words = {"name": name(place), "other": name(chance.randrange(size)), "new": name(size + at), "value": value(at + 1), "place": place, "to": place + 9}
+        words |= {"first": name(at), "last": name(size - 1 - at), "middle": name(size // 2), "size": size, "quarter": size // 4}
+        if "{text}" in line:
+            words["text"] = value(at + 1).ljust(size, "x")
         found.append(request(*line.format(**words).split(" ")))
     return found
+
+
+def parts(command, to, words):
+    """Requests that hand a collection these words, many at once."""
+    return [request(command, to, *words[at : at + WORDS]) for at in range(0, len(words), WORDS)]
+
+
+def keys(size, _):
+    return [request("SET", name(it), value(it)) for it in range(size)]
+
+
+def text(size, to):
+    return [request("SET", to, size * "x")]
+
+
+def hash_table(size, to):
+    return parts("HSET", to, [word for it in range(size) for word in (name(it), value(it))])
+
+
+def items(size, to):
+    """A list, and beside that which isn't a copy another of equal items."""
+    return parts("RPUSH", to, [name(it) for it in range(size)]) + (parts("RPUSH", "same", size * [name(0)]) if to == "it" else [])
+
+
+def members(size, to):
+    """A set, and beside that which isn't a copy one of half of its members, and one of two, one of which it has."""
+    found = parts("SADD", to, [name(it) for it in range(size)])
+    if to == "it":
+        found += parts("SADD", "half", [name(it) for it in range(size // 2, size)]) + parts("SADD", "two", [name(0), name(size)])
+    return found
+
+
+def scored(size, to):
+    # 7919 is prime: each number below the size is a score
+    return parts("ZADD", to, [word for it in range(size) for word in (str(it * 7919 % size), name(it))])
+
+
+@functools.lru_cache(maxsize=2)
+def made(kind, size, to):
+    """What makes a collection of a kind, kept for the next copy."""
+    return kind(size, to)
 
 
 class Growing(Played):
     """A server with one client and collections of one kind."""
 
-    def fill_keys(self, size, _):
-        self.load([request("SET", name(it), value(it)) for it in range(size)])
+    def make(self, kind, size, to):
+        self.load(made(kind, size, to), TOGETHER if kind is keys else 1)
 
-    def fill_text(self, size, to):
-        self.client.asks("SET", to, size * "x")
-
-    def fill_hash(self, size, to):
-        self.fill("HSET", to, [word for it in range(size) for word in (name(it), value(it))])
-
-    def fill_list(self, size, to):
-        self.fill("RPUSH", to, [name(it) for it in range(size)])
-
-    def fill_set(self, size, to):
-        self.fill("SADD", to, [name(it) for it in range(size)])
-        if to == "it":
-            self.fill("SADD", "half", [name(it) for it in range(size // 2, size)])
-            self.client.asks("SADD", "two", name(0), name(size))
-
-    def fill_sorted_set(self, size, to):
-        # 7919 is prime: each number below the size is a score
-        self.fill("ZADD", to, [word for it in range(size) for word in (str(it * 7919 % size), name(it))])
-
-    def measure(self, row, size, fill):
-        """Microseconds of processor time a request."""
+    def measure(self, row, size, kind):
+        """Microseconds of processor time a request, behind one that isn't counted."""
         count = row.count(size)
         if row.takes_copies:
-            return sum(self.copy_taken(row, size, fill) for _ in range(count)) / count
-        self.play(row.before, size, count)
-        took = self.took(requests(row.line, size, count), 1 if row.is_of_all else TOGETHER)
-        self.play(row.after, size, count)
+            return sum([self.copy_taken(row, size, kind) for _ in range(1 + count)][1:]) / count
+        self.play(row.before, size, 1 + count)
+        first, *others = requests(row.line, size, 1 + count)
+        long = self.length_of_reply(first)
+        took = self.took_of_long(others, long) if long > MIB else self.took(others, 1 if row.is_of_all else TOGETHER)
+        self.play(row.after, size, 1 + count)
         return took
 
-    def copy_taken(self, row, size, fill):
-        fill(self, size, "copy")
+    def length_of_reply(self, asked):
+        self.client.send(asked)
+        reply = self.client.reply()
+        if reply.startswith(b"-"):
+            raise SystemExit(f"bench: a request is refused: {reply.decode().strip()}")
+        return len(reply)
+
+    def took_of_long(self, asked, length):
+        """Microseconds that each of these requests took, all of whose replies have this length: to look for their ends takes this program longer than the server."""
+        before = self.server.used()
+        for it in asked:
+            self.client.send(it)
+            self.client.receive(length)
+        return (self.server.used() - before) / len(asked) * 1e6
+
+    def copy_taken(self, row, size, kind):
+        self.make(kind, size, "copy")
         took = self.took(requests(row.line, size, 1))
         self.play("DEL copy", size, 1)
         return took
@@ -172,18 +222,15 @@ class Growing(Played):
             self.load(requests(line, size, count))
 
 
-KINDS = [
-    (KEYS, Growing.fill_keys), (TEXTS, Growing.fill_text), (HASHES, Growing.fill_hash),
-    (LISTS, Growing.fill_list), (SETS, Growing.fill_set), (SORTED_SETS, Growing.fill_sorted_set),
-]
+KINDS = [(KEYS, keys), (TEXTS, text), (HASHES, hash_table), (LISTS, items), (SETS, members), (SORTED_SETS, scored)]
 
 
-def play(start, rows, fill, size):
+def play(start, rows, kind, size):
     """What each row costs a server that is started so, beside a collection of this size."""
     it = Growing(start())
     try:
-        fill(it, size, "it")
-        return [it.measure(row, size, fill) for row in rows]
+        it.make(kind, size, "it")
+        return [it.measure(row, size, kind) for row in rows]
     finally:
         it.server.stop()
 
@@ -198,11 +245,11 @@ def main(chosen):
     if not has_redis():
         raise SystemExit("bench: redis-server is not installed, so there is nothing to measure beside")
     print("| us a request: minired; Redis | " + " | ".join(f"{it:,}" for it in SIZES) + " |\n|---|" + "---|" * len(SIZES))
-    for rows, fill in KINDS:
+    for rows, kind in KINDS:
         rows = [it for it in rows if is_chosen(it.called(), chosen)]
         columns = []
         for size in SIZES if rows else ():
-            runs = [[play(start, rows, fill, size) for start in (server.Server, server.RedisServer)] for _ in range(ROUNDS)]
+            runs = [[play(start, rows, kind, size) for start in (server.Server, server.RedisServer)] for _ in range(ROUNDS)]
             ours, theirs = (least([run[at] for run in runs]) for at in (0, 1))
             columns.append([told(*both) for both in zip(ours, theirs)])
         for row, *cells in zip(rows, *columns):

@@ -9,21 +9,27 @@ end sends a GET a millisecond after each reply. Behind a part the link is cut by
 the promotion the master is killed; one of two replicas is sent REPLICAOF NO ONE with a SET behind it, and the other REPLICAOF to that one. Both go on by a
 part, else the bench ends: that is told by a replica's backlog, which then begins where it began. All on one dataset.
 
+The most memory that a replica of minired has is told where all but the last byte of such a copy is read, and where that byte has come: the bench plays its master.
+
 Each is made ROUNDS times, of both programs in turn; told is the least, of requests a second the median. WORDs choose runs by words of their names."""
 
 import contextlib
 import csv
+import fcntl
 import socket
+import struct
 import subprocess
 import sys
+import termios
 import threading
 import time
 
 from bench.nodes import OK, RARELY, RedisNode, are_in_step, build, fill, running, team, wait
 from bench.servers import KEYS as COPIED
 from bench.servers import MIB, OTHER, ROUNDS, VALUE, has_redis, is_chosen, key, least, medians, peak_of, request, used_by, used_by_children
-from tests.support.replicas import Node
-from tests.support.server import HOST
+from tests.support.handshake import announces
+from tests.support.replicas import Fake, Node, Played
+from tests.support.server import HOST, LATE
 
 KINDS = {"minired": Node, "Redis": RedisNode}
 # of so many keys some are set to others of so many values
@@ -39,6 +45,7 @@ BACKLOG = 4 * MIB
 PAUSE = 0.001
 MS = 1e3
 SCENE = "of a million keys: a copy, a part, a promotion"
+PEAKS = "peak of a replica that is sent a million keys, in MiB"
 
 
 def asked(master, replicas, pipeline, count):
@@ -192,6 +199,39 @@ def scene(kind):
         return found | failed_over(master, first, second)
 
 
+def is_taken(link, node):
+    """Whether the node has read all that was sent to it on this link."""
+    unsent = struct.unpack("i", fcntl.ioctl(link, termios.TIOCOUTQ, bytes(4)))[0]
+    ends = [":%04X" % it for it in (link.getpeername()[1], link.getsockname()[1])]
+    with open(f"/proc/{node.pid}/net/tcp") as sockets:
+        unread = [fields[4] for fields in map(str.split, sockets) if [it[-5:] for it in fields[1:3]] == ends]
+    return unsent == 0 and [it.partition(":")[2] for it in unread] == ["00000000"]
+
+
+def peaks():
+    """The most memory of a replica before a whole copy comes, up to its last byte, and behind it."""
+    texts = b"".join(request(b"SET", key(at), VALUE) for at in range(COPIED))
+    master = Played(announces("a", len(texts), texts)[:-1])
+
+    def serve(link):
+        link.settimeout(LATE)
+        master(link)
+
+    peer = Fake(serve)
+    with running(Node) as (replica,):
+        found = [peak_of(replica.pid)]
+        replica.follow(peer.port)
+        # a reply comes behind what the turn before it has read
+        wait(lambda: master.links and is_taken(master.links[0], replica))
+        replica.said()
+        found.append(peak_of(replica.pid))
+        master.says(texts[-1:])
+        wait(lambda: replica.said().shows == ("a" * 40, len(texts)))
+        found.append(peak_of(replica.pid))
+    peer.close()
+    return found
+
+
 def table(heads, rows):
     print("| " + " | ".join(heads) + " |\n" + "|---" * len(heads) + "|")
     for cells in rows:
@@ -207,6 +247,9 @@ def main(words):
     if is_chosen(SCENE, words):
         rounds = [[scene(kind) for kind in KINDS.values()] for _ in range(ROUNDS)]
         table([SCENE, *KINDS], ([name, *(f"{min(found[name] for found in of_kind):,.1f}" for of_kind in zip(*rounds))] for name in rounds[0][0]))
+    if is_chosen(PEAKS, words):
+        rows = zip(("before the copy", "up to its last byte", "behind it"), least([peaks() for _ in range(ROUNDS)]))
+        table([PEAKS, "minired"], ([name, f"{found / MIB:,.0f}"] for name, found in rows))
 
 
 if __name__ == "__main__":
