@@ -3,7 +3,7 @@
 Each kind of collection has servers of its own, asked over one connection. Told are microseconds of the server's processor time a request, the system's part included, of
 minired and behind a semicolon of Redis, the least of ROUNDS runs; what takes more than 1.5 times Redis' time is bold. Before each row one request of it is made that isn't
 counted. WORDs choose rows by words of their names, and SIZES in the environment the sizes. All rows take some twenty minutes a round. Left out are QUIT, SHUTDOWN, REPLICAOF, SLAVEOF, REPLCONF and PSYNC, behind which a link or a server isn't what it was, COMMAND, whose reply is
-another in Redis, and BGREWRITEAOF, for which Redis has another process."""
+another in Redis, BGREWRITEAOF, for which Redis has another process, and MULTI, EXEC and DISCARD, which bench.py has."""
 
 import functools
 import os
