@@ -1,5 +1,5 @@
 -- What goes out on a connection, and what the file has by then: out by out, and event by event.
-use Rattle.std.proofs.Common.{◌≡◌, ◌++◌, ℕ, List, [], ◌∷◌, Bool, true, false, ◌||◌, cond, Option, None, Some, IfSome, take, drop, length, append-nil, append_assoc, take_all, refl, sym, ap, subst, ◌∙◌, if◌then◌else◌, arith}
+use Rattle.std.proofs.Common.{◌≡◌, ◌++◌, ◌⊎◌, inl, inr, ℕ, List, [], ◌∷◌, Bool, true, false, ◌||◌, cond, Option, None, Some, IfSome, take, drop, length, append-nil, append_assoc, take_all, refl, sym, ap, subst, ◌∙◌, if◌then◌else◌, arith}
 use Rattle.std.specs.Ordering.{eq_by_cmp}
 use Rattle.std.specs.Option.{option_map}
 use Rattle.std.specs.FinMap.{get, insert, remove, get-insert, get-remove}
@@ -386,35 +386,75 @@ module _ (tells : Bool) (mode : SyncMode) where
   all_filed [] s t xs run held = holds_is s t xs run held
   all_filed (e ∷ es) s t xs run held = all_filed es run.0 t (filed_by e xs) run.3 (filed e s run.0 xs run.1 run.2 held)
 
-module _ (tells : Bool) where
-  synced_kept : (e : Event) (s t : Stage) → fault_of e ≡ None → Happens tells sync.Always s e t → IsSyncedWhole s → IsSyncedWhole t
-  synced_kept waits s t goes_on h whole = synced_same s t (ap (λ (z : Stage). z.told) h.is, ap (λ (z : Stage). z.synced) h.is) (ap (λ (z : Stage). z.own.batch) h.is) whole
-  synced_kept (joins j l) s t goes_on h whole = synced_same s t h.file h.batch whole
-  synced_kept turns_away s t goes_on h whole = synced_same s t h.file (batch_of h.own) whole
-  synced_kept (takes j bytes) s t goes_on h whole = synced_same s t h.file (batch_of h.own) whole
-  synced_kept (finds_none j) s t goes_on h whole = synced_same s t h.file (batch_of h.own) whole
-  synced_kept (hears_end j x) s t goes_on h whole = synced_same s t h.file (batch_of h.own) whole
-  synced_kept (loses j) s t goes_on h whole = synced_same s t h.dropped.file h.dropped.batch whole
-  synced_kept (misses j) s t goes_on h whole = synced_same s t h.dropped.file h.dropped.batch whole
-  synced_kept (is_refused j l given fresh) s t goes_on h whole = synced_same s t h.dropped.file h.dropped.batch whole
-  synced_kept (is_deaf j l) s t goes_on h whole = synced_same s t h.dropped.file h.dropped.batch whole
-  synced_kept (idles j l given fresh) s t goes_on h whole = synced_same s t (ap (λ (z : Stage). z.told) h.same, ap (λ (z : Stage). z.synced) h.same) (ap (λ (z : Stage). z.own.batch) h.same) whole
-  synced_kept (acts act outs) s t goes_on h whole = carried_by IsSyncedWhole carries_synced (outs_of outs) h.called t h.carried (synced_same s h.called (called_told act s h.called outs h.calls) (called_batch act s h.called outs h.calls) whole)
-  synced_kept (spills act outs) s t goes_on h whole = absurd (no_fault goes_on)
-  synced_kept (tears act outs) s t goes_on h whole = absurd (no_fault goes_on)
-  synced_kept (writes j bytes) s t goes_on h whole = synced_same s t h.file (batch_of h.own) whole
-  synced_kept (breaks j) s t goes_on h whole = synced_same s t h.dropped.file h.dropped.batch whole
-  synced_kept (closes j) s t goes_on h whole = synced_same s t h.dropped.file h.dropped.batch whole
-  synced_kept (appends texts) s t goes_on h whole = λ none. h.synced refl
-  synced_kept fails s t goes_on h whole = absurd (no_fault goes_on)
-  synced_kept (misses_tick given) s t goes_on h whole = synced_same s t (ap (λ (z : Stage). z.told) h.is, ap (λ (z : Stage). z.synced) h.is) (ap (λ (z : Stage). z.own.batch) h.is) whole
-  synced_kept misses_dial s t goes_on h whole = synced_same s t h.file (batch_of h.own) whole
-  synced_kept (settles hurries) s t goes_on h whole = synced_same s t (ap (λ (z : Stage). z.told) h.is, ap (λ (z : Stage). z.synced) h.is) (ap (λ (z : Stage). z.own.batch) h.is) whole
-  synced_kept (stops stop) s t goes_on h whole = absurd (no_fault goes_on)
+-- Of all events behind which a turn goes on: what holds however the file is synced, as long as what waits for it and its bytes stay, or are synced.
+module _ (tells : Bool) (P : Stage → Type 0) (same : (s t : Stage) → SameFile s t → t.own.batch ≡ s.own.batch → P s → P t) (carries : (out : OutState) (s t : Stage) → Carries out s t → P s → P t)
+    (synced : (t : Stage) → IsSynced t.told t.synced → P t) where
+  lasts : (e : Event) (s t : Stage) → fault_of e ≡ None → Happens tells sync.Always s e t → P s → P t
+  lasts waits s t goes_on h held = same s t (ap (λ (z : Stage). z.told) h.is, ap (λ (z : Stage). z.synced) h.is) (ap (λ (z : Stage). z.own.batch) h.is) held
+  lasts (joins j l) s t goes_on h held = same s t h.file h.batch held
+  lasts turns_away s t goes_on h held = same s t h.file (batch_of h.own) held
+  lasts (takes j bytes) s t goes_on h held = same s t h.file (batch_of h.own) held
+  lasts (finds_none j) s t goes_on h held = same s t h.file (batch_of h.own) held
+  lasts (hears_end j x) s t goes_on h held = same s t h.file (batch_of h.own) held
+  lasts (loses j) s t goes_on h held = same s t h.dropped.file h.dropped.batch held
+  lasts (misses j) s t goes_on h held = same s t h.dropped.file h.dropped.batch held
+  lasts (is_refused j l given fresh) s t goes_on h held = same s t h.dropped.file h.dropped.batch held
+  lasts (is_deaf j l) s t goes_on h held = same s t h.dropped.file h.dropped.batch held
+  lasts (idles j l given fresh) s t goes_on h held = same s t (ap (λ (z : Stage). z.told) h.same, ap (λ (z : Stage). z.synced) h.same) (ap (λ (z : Stage). z.own.batch) h.same) held
+  lasts (acts act outs) s t goes_on h held = carried_by P carries (outs_of outs) h.called t h.carried (same s h.called (called_told act s h.called outs h.calls) (called_batch act s h.called outs h.calls) held)
+  lasts (spills act outs) s t goes_on h held = absurd (no_fault goes_on)
+  lasts (tears act outs) s t goes_on h held = absurd (no_fault goes_on)
+  lasts (writes j bytes) s t goes_on h held = same s t h.file (batch_of h.own) held
+  lasts (breaks j) s t goes_on h held = same s t h.dropped.file h.dropped.batch held
+  lasts (closes j) s t goes_on h held = same s t h.dropped.file h.dropped.batch held
+  lasts (appends texts) s t goes_on h held = synced t (h.synced refl)
+  lasts fails s t goes_on h held = absurd (no_fault goes_on)
+  lasts (misses_tick given) s t goes_on h held = same s t (ap (λ (z : Stage). z.told) h.is, ap (λ (z : Stage). z.synced) h.is) (ap (λ (z : Stage). z.own.batch) h.is) held
+  lasts misses_dial s t goes_on h held = same s t h.file (batch_of h.own) held
+  lasts (settles hurries) s t goes_on h held = same s t (ap (λ (z : Stage). z.told) h.is, ap (λ (z : Stage). z.synced) h.is) (ap (λ (z : Stage). z.own.batch) h.is) held
+  lasts (stops stop) s t goes_on h held = absurd (no_fault goes_on)
 
-  all_synced : (es : List Event) (s t : Stage) → Run tells sync.Always s es t → IsSyncedWhole s → IsSyncedWhole t
-  all_synced [] s t run whole = subst IsSyncedWhole (sym run) whole
-  all_synced (e ∷ es) s t run whole = all_synced es run.0 t run.3 (synced_kept e s run.0 run.1 run.2 whole)
+  all_last : (es : List Event) (s t : Stage) → Run tells sync.Always s es t → P s → P t
+  all_last [] s t run held = subst P (sym run) held
+  all_last (e ∷ es) s t run held = all_last es run.0 t run.3 (lasts e s run.0 run.1 run.2 held)
+
+all_synced : (tells : Bool) (es : List Event) (s t : Stage) → Run tells sync.Always s es t → IsSyncedWhole s → IsSyncedWhole t
+all_synced tells = all_last tells IsSyncedWhole synced_same carries_synced (λ t is none. is)
+
+-- .. or nothing has gone into the file since, and nothing waits for it
+abbrev Covered : Option (List ℕ) → Stage → Type 0
+Covered first t = IsSyncedWhole t ⊎ ((t.told ≡ first) × (t.own.batch ≡ []))
+
+covered_same : (first : Option (List ℕ)) (s t : Stage) → SameFile s t → t.own.batch ≡ s.own.batch → Covered first s → Covered first t
+covered_same first s t file batch (inl whole) = inl (synced_same s t file batch whole)
+covered_same first s t file batch (inr still) = inr (file.0 ∙ still.0, batch ∙ still.1)
+
+covered_more : (first : Option (List ℕ)) (s t : Stage) (texts : List ℕ) → SameFile s t → t.own.batch ≡ s.own.batch ++ texts → Covered first s → Covered first t
+covered_more first s t texts file batch (inl whole) = inl (synced_more s t texts file batch whole)
+covered_more first s t [] file batch (inr still) = inr (file.0 ∙ still.0, batch ∙ ap (λ z. z ++ []) still.1)
+covered_more first s t (b ∷ texts) file batch (inr still) = inl (λ none. absurd (let wrong : b ∷ texts ≡ [] = sym (batch ∙ ap (λ z. z ++ b ∷ texts) still.1) ∙ none in cc))
+
+carries_covered : (first : Option (List ℕ)) (out : OutState) (s t : Stage) → Carries out s t → Covered first s → Covered first t
+carries_covered first (grow bytes) s t c held = subst (Covered first) (sym c) held
+carries_covered first (append bytes) s t c held = covered_more first s t bytes (ap (λ (z : Stage). z.told) c, ap (λ (z : Stage). z.synced) c) (ap (λ (z : Stage). z.own.batch) c) held
+carries_covered first (replace bytes) s t c held = inl (λ none. c.synced)
+carries_covered first (send x bytes) s t c held = covered_same first s t (ap (λ (z : Stage). z.told) c, ap (λ (z : Stage). z.synced) c) (ap (λ (z : Stage). z.own.batch) c) held
+carries_covered first (close x) s t c held = covered_same first s t (ap (λ (z : Stage). z.told) c, ap (λ (z : Stage). z.synced) c) (ap (λ (z : Stage). z.own.batch) c) held
+carries_covered first (use_id id) s t c held = subst (Covered first) (sym c) held
+carries_covered first (follow address) s t c held = subst (Covered first) (sym c) held
+carries_covered first halt s t c held = covered_same first s t (ap (λ (z : Stage). z.told) c, ap (λ (z : Stage). z.synced) c) (ap (λ (z : Stage). z.own.batch) c) held
+
+covered_first : (s : Stage) (batch : List ℕ) → s.own.batch ≡ batch → Covered s.told s
+covered_first s [] e = inr (refl, e)
+covered_first s (b ∷ batch) e = inl (λ none. absurd (let wrong : b ∷ batch ≡ [] = sym e ∙ none in cc))
+
+covered_last : (first : Option (List ℕ)) (t : Stage) → t.own.batch ≡ [] → Covered first t → IsSynced t.told t.synced ⊎ (t.told ≡ first)
+covered_last first t none (inl whole) = inl (whole none)
+covered_last first t none (inr still) = inr still.0
+
+-- where a run ends with nothing that waits for the file
+all_covered : (tells : Bool) (es : List Event) (s t : Stage) → Run tells sync.Always s es t → t.own.batch ≡ [] → IsSynced t.told t.synced ⊎ (t.told ≡ s.told)
+all_covered tells es s t run none = covered_last s.told t none (all_last tells (Covered s.told) (covered_same s.told) (carries_covered s.told) (λ z is. inl (λ empty. is)) es s t run (covered_first s s.own.batch refl))
 
 -- ---- a run in two
 
@@ -444,6 +484,7 @@ module _ (tells : Bool) (mode : SyncMode) where
         in_order = append_assoc (moved_in k before) bytes (drop count write.waiting) ∙ (ap (λ z. moved_in k before ++ z) whole ∙ order.in_order);
         filed = file.told ∙ ap Some (sym (append-nil file.bytes) ∙ (ap (λ z. file.bytes ++ z) (sym write.filed) ∙ file.all));
         synced = λ always whole. all_synced tells before s now (subst (λ m. Run tells m s before now) always cut.1.0) whole write.filed;
+        covered = λ always. all_covered tells before s now (subst (λ m. Run tells m s before now) always cut.1.0) write.filed;
       }
 
 pub is_sent_once_filed : IsSentOnceFiled

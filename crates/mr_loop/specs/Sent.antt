@@ -1,5 +1,5 @@
 -- What the events of a turn come to: on one connection, and for the file.
-use Rattle.std.specs.Prelude.{◌≡◌, ℕ, ℤ, List, [], ◌∷◌, ◌++◌, Bool, true, false, Option, Some, None, if◌then◌else◌, ◌||◌}
+use Rattle.std.specs.Prelude.{◌≡◌, ◌⊎◌, ℕ, ℤ, List, [], ◌∷◌, ◌++◌, Bool, true, false, Option, Some, None, if◌then◌else◌, ◌||◌}
 use Rattle.std.specs.Ordering.{eq_by_cmp}
 use Rattle.std.specs.FinMap as map
 use Rattle.mr_links.specs.LinkId.{id_cmp}
@@ -178,6 +178,8 @@ pub record IsFiledFirst (tells : Bool) (mode : SyncMode) (s : Stage) (before : L
   pub filed : now.told ≡ Some (filed_in before (xs ++ s.own.batch))
   -- with `Always` all of that is synced, if at first all was where nothing waited
   pub synced : mode ≡ sync.Always → IsSyncedWhole s → IsSynced now.told now.synced
+  -- .. and if not, as behind a start, which reads a file and syncs none: unless nothing has gone into the file since
+  pub covered : mode ≡ sync.Always → IsSynced now.told now.synced ⊎ (now.told ≡ s.told)
 
 -- **What is sent is in the file**, to a client and to a replica. As bytes are moved, the node gave them out before, and the file has the texts of all that it
 -- gave out by then.

@@ -10,7 +10,8 @@ pub fn what_is_sent_goes_out_in_order()
     ensures { GoesOutInOrder }
 {}
 
-/// As bytes are moved to a peer, the node gave them out before, and the file has the texts of all that it gave out by then.
+/// As bytes are moved to a peer, the node gave them out before, and the file has the texts of all that it gave out by then; with `Always`
+/// all of the file is synced then, as soon as anything has gone into it.
 pub fn what_is_sent_is_filed()
     ensures { IsSentOnceFiled }
 {}
