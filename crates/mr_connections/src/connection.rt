@@ -155,10 +155,27 @@ impl Connection {
         ensures err { OnErr result (self.new ≡ self.old) }
     {
         self.unsent.push(bytes)?;
+        self.narrow_for_much();
+        Ok(())
+    }
+
+    /// The same of bytes that may change places with the room of what waits.
+    pub(crate) fn push_whole(&mut self, bytes: &mut Vec<u8>) -> Result<(), AllocError>
+        ensures ok { OnOk result (self.new ≡ pushed bytes.old.items self.old) }
+        ensures err { OnErr result (self.new ≡ self.old) }
+    {
+        self.unsent.push_whole(bytes)?;
+        self.narrow_for_much();
+        Ok(())
+    }
+
+    /// Where much waits, less of it is read at once.
+    fn narrow_for_much(&mut self)
+        ensures { self.new ≡ self.old }
+    {
         if self.has_much() {
             self.piece = narrowed(self.piece);
         }
-        Ok(())
     }
 
     /// A write moved so many of the bytes that wait.

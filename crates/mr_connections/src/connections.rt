@@ -196,6 +196,32 @@ impl Connections {
         one::push(&mut self.rows, socket, bytes)
     }
 
+    /// As `send`, of bytes that aren't copied where nothing waits: they change places with the room of what waits, and what stands
+    /// in `bytes` then says nothing.
+    pub fn send_whole(&mut self, link: LinkId, bytes: &mut Vec<u8>) -> Result<(), AllocError>
+        ensures ok { OnOk result (self.new ≡ sent link bytes.old.items self.old) }
+        ensures err { OnErr result (self.new ≡ self.old) }
+    {
+        if bytes.as_slice().is_empty() {
+            return Ok(());
+        }
+        let Some(socket) = self.socket_of(link) else {
+            return Ok(());
+        };
+        self.push_whole(socket, bytes)?;
+        self.note(socket);
+        Ok(())
+    }
+
+    /// Puts bytes behind what waits for a connection that isn't done, as `send_whole` does.
+    fn push_whole(&mut self, socket: LinkId, bytes: &mut Vec<u8>) -> Result<(), AllocError>
+        requires { is_done_at (map.get self.old socket) ≡ false }
+        ensures ok { OnOk result (self.new ≡ changed socket (pushed bytes.old.items) self.old) }
+        ensures err { OnErr result (self.new ≡ self.old) }
+    {
+        one::push_whole(&mut self.rows, socket, bytes)
+    }
+
     /// A write moved so many of the bytes that wait for a connection.
     pub fn wrote(&mut self, socket: LinkId, count: usize)
         requires { IfSome (map.get self.old socket) (λ c. count ≤ length c.waiting) }

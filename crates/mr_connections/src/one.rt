@@ -76,6 +76,21 @@ pub(crate) fn push(
     }
 }
 
+/// The same of bytes that may change places with the room of what waits.
+pub(crate) fn push_whole(
+    rows: &mut Table<Connection>,
+    socket: LinkId,
+    bytes: &mut Vec<u8>,
+) -> Result<(), AllocError>
+    ensures ok { OnOk result (rows.new ≡ changed socket (pushed bytes.old.items) rows.old) }
+    ensures err { OnErr result (rows.new ≡ rows.old) }
+{
+    match rows.get_mut(socket) {
+        Some(connection) => connection.push_whole(bytes),
+        None => Ok(()),
+    }
+}
+
 /// A write moved so many of the bytes that wait.
 pub(crate) fn advance(rows: &mut Table<Connection>, socket: LinkId, count: usize)
     requires { IfSome (map.get rows.old socket) (λ c. count ≤ length c.waiting) }

@@ -3,6 +3,7 @@ ghost use Rattle.mr_unsent.specs.Limits.{most_unsent};
 
 use std::alloc::{AllocError, Global};
 use std::marker::Model;
+use std::mem;
 
 /// A client on whose link more bytes wait is closed in place of its next step: 64 MiB.
 const MOST_UNSENT: usize = 67_108_864;
@@ -83,6 +84,21 @@ impl Unsent {
     {
         self.compact();
         self.bytes.extend_from_slice(bytes)?;
+        self.needed = self.needed.max(self.bytes.len());
+        Ok(())
+    }
+
+    /// Puts bytes behind what waits. Where nothing does, they aren't copied: they change places with the room that is here, and
+    /// what stands in `bytes` then says nothing.
+    pub fn push_whole(&mut self, bytes: &mut Vec<u8>) -> Result<(), AllocError>
+        ensures ok { OnOk result (self.new ≡ self.old ++ bytes.old.items) }
+        ensures err { OnErr result (self.new ≡ self.old) }
+    {
+        if !self.is_empty() {
+            return self.push(bytes.as_slice());
+        }
+        self.moved = 0;
+        mem::swap(&mut self.bytes, bytes);
         self.needed = self.needed.max(self.bytes.len());
         Ok(())
     }
