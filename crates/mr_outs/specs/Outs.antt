@@ -1,5 +1,5 @@
 -- What a call on a node gives out.
-use Rattle.std.specs.Prelude.{ℕ, List, [], ◌∷◌, ◌++◌, Bool, true, false, Option, Some, None, refl}
+use Rattle.std.specs.Prelude.{◌≡◌, ℕ, List, [], ◌∷◌, ◌++◌, Bool, true, false, Option, Some, None, refl}
 use Rattle.std.specs.Coded.{Coded, code_by, coded×, coded_ℕ, coded_bool, coded_list, coded_option}
 use Rattle.mr_links.specs.LinkId.{coded_id}
 use Rattle.mr_links.specs.declared.link_id.LinkId.{LinkId}
@@ -126,3 +126,11 @@ reply_outs o = sent_outs o.link o.reply ++ (closing_outs o.link o.closes ++ (clo
 -- in their order: what the stream grows by, what is done to the file, only then what replicas and the client are sent, and the rest
 abbrev pub outs_of : OutsState → List OutState
 outs_of o = grown_outs o.grown ++ (appended_outs o.appended ++ (replaced_outs o.replaced ++ (fed_outs o.grown o.fed ++ reply_outs o)))
+
+-- nothing is given out behind the reply
+pub record EndsWithReply (o : OutsState) : Type 0 where
+  pub stays : o.closes ≡ false
+  pub none_closed : o.closed ≡ []
+  pub none_used : o.used ≡ None
+  pub none_followed : o.follows ≡ None
+  pub goes_on : o.halts ≡ false

@@ -1,12 +1,12 @@
 // What a step gives out.
-ghost use Rattle.std.specs.Prelude.{◌≡◌, ◌++◌, ◌∷◌, [], ◌+◌, true, false, length, nat_le, if◌then◌else◌, IfOk, OnOk, Some};
+ghost use Rattle.std.specs.Prelude.{◌≡◌, ◌++◌, ◌∷◌, [], ◌+◌, true, false, length, nat_le, if◌then◌else◌, IfOk, IfSome, IfNone, IsTrue, OnOk, Some};
 ghost use Rattle.std.specs.Option.{option_map, option_copied};
 ghost use Rattle.mr_resp.specs.Replies.{reply_text};
 ghost use Rattle.mr_resp.specs.Spelling.{number_line};
 ghost use Rattle.mr_resp.specs.ReplyView.{view};
 ghost use Rattle.mr_effect.specs.Spelling.{size, text, texts};
 ghost use Rattle.mr_effect.specs.declared.effect.Effect.TheVariants as effect;
-ghost use Rattle.mr_outs.specs.Outs.{no_outs, outs_of};
+ghost use Rattle.mr_outs.specs.Outs.{EndsWithReply, append, grown_outs, no_outs, outs_of, send};
 
 use crate::address::Address;
 use crate::buffers::{Buffers, spare};
@@ -177,6 +177,67 @@ impl Outs {
         ensures { result ≡ self.now.halts }
     {
         self.halts
+    }
+}
+
+/// Texts and replies of so many bytes and more are worth to be handed on with their memory.
+const LONG: usize = 65_536;
+
+// What is handed on with its memory.
+impl Outs {
+    /// Takes out the texts that stand in front, where they are long, all go behind the file and are sent to no replica: they are
+    /// behind the file as the first thing that is carried out. What the stream grew by is told with them.
+    pub fn take_first(&mut self) -> Option<Vec<u8>>
+        ensures some { IfSome result (λ texts. outs_of self.old ≡ grown_outs self.old.grown ++ append texts.items ∷ outs_of self.new) }
+        ensures rest { IfSome result (λ _. self.new ≡ record self.old { grown = []; appended = [] }) }
+        ensures none { IfNone result (self.new ≡ self.old) }
+    {
+        if self.texts.len() < LONG || self.filed < self.texts.len() || !self.fed.is_empty() {
+            return None;
+        }
+        self.filed = 0;
+        self.grows = false;
+        Some(mem::replace(&mut self.texts, Vec::new(self.alloc)))
+    }
+
+    /// Takes out the reply, where it is long and nothing is carried out behind it.
+    pub fn take_last(&mut self) -> Option<(LinkId, Vec<u8>)>
+        ensures some { IfSome result (λ reply. outs_of self.old ≡ outs_of self.new ++ send reply.0 reply.1.items ∷ []) }
+        ensures none { IfNone result (self.new ≡ self.old) }
+    {
+        if self.reply.len() < LONG || !self.ends_with_the_reply() {
+            return None;
+        }
+        let link = self.link?;
+        Some((link, mem::replace(&mut self.reply, Vec::new(self.alloc))))
+    }
+
+    /// Takes room for texts, in place of those that are here.
+    pub fn keep_texts(&mut self, room: Vec<u8>)
+        ensures { self.new ≡ record self.old { grown = []; appended = [] } }
+    {
+        self.filed = 0;
+        self.grows = false;
+        self.texts = room;
+    }
+
+    /// Takes room for a reply, in place of the one that is here.
+    pub fn keep_reply(&mut self, mut room: Vec<u8>)
+        ensures { self.new ≡ record self.old { reply = [] } }
+    {
+        room.clear();
+        self.reply = room;
+    }
+
+    /// Whether nothing is carried out behind the reply.
+    fn ends_with_the_reply(&self) -> bool
+        ensures { IsTrue result → EndsWithReply self.now }
+    {
+        !self.closes
+            && self.closed.is_empty()
+            && self.used.is_none()
+            && self.follows.is_none()
+            && !self.halts
     }
 }
 
