@@ -9,7 +9,7 @@ use Rattle.mr_course.specs.State.{CourseState, name_of}
 use Rattle.mr_connections.specs.State.{HasLink, parted, sent}
 use Rattle.mr_ends.specs.State.{EndState, Transaction}
 use Rattle.mr_ends.specs.State.EndState.{client as an_end, waiting as open_end, replica as a_replica, upstream as a_master, shut as closed}
-use Rattle.mr_outs.specs.Outs.{OutState, OutsState, append, close, outs_of, replace, send}
+use Rattle.mr_outs.specs.Outs.{OutState, OutsState, append, close, grown_outs, outs_of, replace, send}
 use Rattle.mr_rows.specs.State.{MasterAgrees, NodeState, end_of}
 use Rattle.mr_rows.specs.LinkRows.{closed_at}
 use Rattle.mr_rows.specs.UpstreamRows as upstream
@@ -28,7 +28,7 @@ use Rattle.mr_loop.specs.declared.fault.LoopFault.{LoopFault}
 use Rattle.mr_loop.specs.declared.fault.LoopFault.TheVariants as fault
 use Rattle.mr_loop.specs.declared.told.Turn.{Turn}
 use Rattle.mr_loop.specs.Stage.{Stage, LoopState, filed, lacking, stage, with_connections}
-use Rattle.mr_loop.specs.Carrying.{Carries, Carried, CarriesAs, CarriesOneAs, Spilled, WantsRoom}
+use Rattle.mr_loop.specs.Carrying.{Carries, Carried, CarriesAs, CarriesOneAs, SoFar, Spilled, WantsRoom}
 use Rattle.mr_loop.specs.Causes.{Act, Calls, HasInput, IsLight, Stepped, at_step}
 use Rattle.mr_loop.specs.Rows.{Event, Happens, acts, fault_of, spills, tears}
 use Rattle.mr_loop.specs.News.{is_client_end, news_of, place_of}
@@ -100,12 +100,6 @@ sent_as x link bytes s o q r e ok err well ill is = carries_seen r x (send link 
 
 -- ---- all outs
 
--- some were carried out, and these are left
-pub record SoFar (all rest : List OutState) (s t : Stage) : Type 0 where
-  pub done : List OutState
-  pub are : all ≡ done ++ rest
-  pub carried : Carried done s t
-
 pub none_so_far : (all rest : List OutState) (s : Stage) → rest ≡ all → SoFar all rest s s
 none_so_far all rest s e = record { done = []; are = sym e; carried = refl }
 
@@ -117,12 +111,15 @@ carried_append (x ∷ xs) ys a b c r q = (r.0, r.1, carried_append xs ys r.0 b c
 ahead : (all done rest later xs : List OutState) → all ≡ done ++ rest → rest ≡ xs ++ later → all ≡ (done ++ xs) ++ later
 ahead all done rest later xs are e = are ∙ (ap (λ ys. done ++ ys) e ∙ sym (append_assoc done xs later))
 
-pub one_so_far : (all rest later : List OutState) (out : OutState) (s t u : Stage) → rest ≡ out ∷ later → SoFar all rest s t → Carried (out ∷ []) t u → SoFar all later s u
-one_so_far all rest later out s t u e so c = record {
-  done = so.done ++ (out ∷ []);
-  are = ahead all so.done rest later (out ∷ []) so.are e;
-  carried = carried_append so.done (out ∷ []) s t u so.carried c;
+pub more_so_far : (all rest later xs : List OutState) (s t u : Stage) → rest ≡ xs ++ later → SoFar all rest s t → Carried xs t u → SoFar all later s u
+more_so_far all rest later xs s t u e so c = record {
+  done = so.done ++ xs;
+  are = ahead all so.done rest later xs so.are e;
+  carried = carried_append so.done xs s t u so.carried c;
 }
+
+pub one_so_far : (all rest later : List OutState) (out : OutState) (s t u : Stage) → rest ≡ out ∷ later → SoFar all rest s t → Carried (out ∷ []) t u → SoFar all later s u
+one_so_far all rest later out s t u e so c = more_so_far all rest later (out ∷ []) s t u e so c
 
 pub all_so_far : (all rest : List OutState) (s t : Stage) → rest ≡ [] → SoFar all rest s t → Carried all s t
 all_so_far all rest s t e so = subst (λ outs. Carried outs s t) (sym (so.are ∙ (ap (λ ys. so.done ++ ys) e ∙ append-nil so.done))) so.carried
@@ -132,12 +129,12 @@ broken_at : (all done rest later xs front back : List OutState) (x : OutState) �
 broken_at all done rest later xs front back x are e is =
     are ∙ (ap (λ ys. done ++ ys) (e ∙ (ap (λ ys. ys ++ later) is ∙ append_assoc front (x ∷ back) later)) ∙ sym (append_assoc done front (x ∷ (back ++ later))))
 
-pub fails_so_far : (why : LoopFault) (all rest later : List OutState) (out : OutState) (s t u : Stage) → rest ≡ out ∷ later → SoFar all rest s t → CarriesOneAs (Err why) out t u → CarriesAs (Err why) all s u
-fails_so_far fault.File all rest later out s t u e so torn = record {
+pub fails_so_far : (why : LoopFault) (all rest later xs : List OutState) (s t u : Stage) → rest ≡ xs ++ later → SoFar all rest s t → CarriesAs (Err why) xs t u → CarriesAs (Err why) all s u
+fails_so_far fault.File all rest later xs s t u e so torn = record {
   done = so.done ++ torn.done;
   bytes = torn.bytes;
   rest = torn.rest ++ later;
-  are = broken_at all so.done rest later (out ∷ []) torn.done torn.rest (replace torn.bytes) so.are e torn.are;
+  are = broken_at all so.done rest later xs torn.done torn.rest (replace torn.bytes) so.are e torn.are;
   before = torn.before;
   carried = carried_append so.done torn.done s t torn.before so.carried torn.carried;
   written = torn.written;
@@ -146,21 +143,56 @@ fails_so_far fault.File all rest later out s t u e so torn = record {
   wire = torn.wire;
   failed = torn.failed;
 }
-fails_so_far fault.Stopped all rest later out s t u e so spilled = record {
+fails_so_far fault.Stopped all rest later xs s t u e so spilled = record {
   done = so.done ++ spilled.done;
   last = spilled.last;
   rest = spilled.rest ++ later;
-  are = broken_at all so.done rest later (out ∷ []) spilled.done spilled.rest spilled.last so.are e spilled.are;
+  are = broken_at all so.done rest later xs spilled.done spilled.rest spilled.last so.are e spilled.are;
   before = spilled.before;
   carried = carried_append so.done spilled.done s t spilled.before so.carried spilled.carried;
   wants = spilled.wants;
   lacks = spilled.lacks;
 }
-fails_so_far fault.Listener all rest later out s t u e so never = absurd never
+fails_so_far fault.Listener all rest later xs s t u e so never = absurd never
 
 -- .. as it is answered
 pub answers_so_far : (r : Result (Unit {0}) LoopFault) (why : LoopFault) (all rest later : List OutState) (out : OutState) (s t u : Stage) → r ≡ Err why → rest ≡ out ∷ later → SoFar all rest s t → CarriesOneAs (Err why) out t u → CarriesAs r all s u
-answers_so_far r why all rest later out s t u is e so c = subst (λ z. CarriesAs z all s u) (sym is) (fails_so_far why all rest later out s t u e so c)
+answers_so_far r why all rest later out s t u is e so c = subst (λ z. CarriesAs z all s u) (sym is) (fails_so_far why all rest later (out ∷ []) s t u e so c)
+
+-- .. what is left, carried out as well as it goes
+pub rest_so_far : (r : Result (Unit {0}) LoopFault) (all rest : List OutState) (s t u : Stage) → SoFar all rest s t → CarriesAs r rest t u → CarriesAs r all s u
+rest_so_far (Ok _) all rest s t u so c = subst (λ outs. Carried outs s u) (sym so.are) (carried_append so.done rest s t u so.carried c)
+rest_so_far (Err why) all rest s t u so c = fails_so_far why all rest [] rest s t u (sym (append-nil rest)) so c
+
+-- ---- what goes with its memory
+
+grown_carried : (grown : List ℕ) (s : Stage) → Carried (grown_outs grown) s s
+grown_carried [] s = refl
+grown_carried (b ∷ grown) s = (s, refl, refl)
+
+-- texts in front
+first_so_far : (all rest : List OutState) (grown texts : List ℕ) (s : Stage) → all ≡ grown_outs grown ++ append texts ∷ rest → SoFar all (append texts ∷ rest) s s
+first_so_far all rest grown texts s e = record { done = grown_outs grown; are = e; carried = grown_carried grown s }
+
+pub left_as : (all rest left : List OutState) (s t : Stage) → left ≡ rest → SoFar all rest s t → SoFar all left s t
+left_as all rest left s t e so = subst (λ outs. SoFar all outs s t) (sym e) so
+
+pub first_filed : (all rest left : List OutState) (grown texts : List ℕ) (s : Stage) (o : LoopState) (q : Result (Unit {0}) AllocError) (r : Result (Unit {0}) LoopFault) → all ≡ grown_outs grown ++ append texts ∷ rest → left ≡ rest
+    → OnOk q (o ≡ filed texts s.own) → OnErr q (o ≡ lacking s.own) → OnOk r (OnErr q ⊥) → OnErr r (OnOk q ⊥) → IfErr r (λ e. e ≡ fault.Stopped)
+    → OnOk r (SoFar all left s (record s { own = o })) × OnErr r (CarriesAs r all s (record s { own = o }))
+first_filed all rest left grown texts s o q (Ok _) e same ok err well ill is =
+    let c = appended_as (append texts) texts s o q (Ok tt) refl ok err well ill is in
+    (left_as all rest left s (record s { own = o }) same (one_so_far all (append texts ∷ rest) rest (append texts) s s (record s { own = o }) refl (first_so_far all rest grown texts s e) c), tt)
+first_filed all rest left grown texts s o q (Err why) e same ok err well ill is =
+    let c = appended_as (append texts) texts s o q (Err why) refl ok err well ill is in
+    (tt, fails_so_far why all (append texts ∷ rest) rest (append texts ∷ []) s s (record s { own = o }) refl (first_so_far all rest grown texts s e) c)
+
+-- a reply at the end
+pub last_sent : (all mid front : List OutState) (link : LinkId) (reply : List ℕ) (s m t : Stage) (o : LoopState) (q : Result (Unit {0}) AllocError) (r : Result (Unit {0}) LoopFault) → mid ≡ front ++ send link reply ∷ []
+    → SoFar all mid s m → Carried front m t → OnOk q (o ≡ with_connections (sent link reply) t.own) → OnErr q (o ≡ lacking t.own) → OnOk r (OnErr q ⊥) → OnErr r (OnOk q ⊥) → IfErr r (λ e. e ≡ fault.Stopped)
+    → CarriesAs r all s (record t { own = o })
+last_sent all mid front link reply s m t o q r e so c ok err well ill is =
+    rest_so_far r all (send link reply ∷ []) s t (record t { own = o }) (more_so_far all mid (send link reply ∷ []) front s m t e so c) (sent_as (send link reply) link reply t o q r refl ok err well ill is)
 
 -- ---- a call of the node whose outs aren't all carried out
 

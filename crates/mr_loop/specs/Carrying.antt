@@ -37,6 +37,12 @@ abbrev pub Carried : List OutState → Stage → Stage → Type 0
 Carried [] s t = t ≡ s
 Carried (out ∷ outs) s t = (mid : Stage) × Carries out s mid × Carried outs mid t
 
+-- Some of all were carried out, and these are left.
+pub record SoFar (all rest : List OutState) (s t : Stage) : Type 0 where
+  pub done : List OutState
+  pub are : all ≡ done ++ rest
+  pub carried : Carried done s t
+
 -- room has to be found for what waits
 abbrev pub WantsRoom : OutState → Type 0
 WantsRoom (append bytes) = Unit {0}

@@ -5,7 +5,7 @@ ghost use Rattle.mr_rows.specs.LinkRows.{closed_at};
 ghost use Rattle.mr_connections.specs.State.{parted};
 ghost use Rattle.mr_loop.specs.Stage.{with_connections};
 ghost use Rattle.mr_outs.specs.Listing.{out_view};
-ghost use Rattle.mr_loop.specs.Carrying.{CarriesAs, CarriesOneAs};
+ghost use Rattle.mr_loop.specs.Carrying.{CarriesAs, CarriesOneAs, SoFar};
 ghost use Rattle.mr_loop.specs.Counting.{Renewed};
 ghost use Rattle.mr_loop.specs.Hosts.{IsSame, moment_in, stage_in};
 
@@ -20,15 +20,15 @@ use std::alloc::AllocError;
 
 impl<W: Wire, F: LogFile, S: Source> Host<'_, '_, W, F, S> {
     /// What a call on the node gave out is carried out. Where the node took the fresh id, another is drawn.
-    pub(crate) fn take(&mut self, outs: Outs) -> Result<(), LoopFault>
+    pub(crate) fn take(&mut self, mut outs: Outs) -> Result<(), LoopFault>
         ensures carried { CarriesAs result (outs_of outs) (stage_in W.links W.failures F.told F.synced self.old) (stage_in W.links W.failures F.told F.synced self.new) }
         ensures moment { OnOk result (Renewed outs.used (moment_in S.drawn self.old) (moment_in S.drawn self.new)) }
         ensures kept { OnErr result (moment_in S.drawn self.new ≡ moment_in S.drawn self.old) }
         ensures same { IsSame W.waited S.clock self.old self.new }
         ensures device { IsErrOf result LoopFault.File → self.new.log.now.broken ≡ true }
     {
-        let carried = self.carry_out(&outs);
         let takes_id = outs.used().is_some();
+        let carried = self.carry_all(&mut outs);
         self.node.reuse(outs);
         carried?;
         if takes_id {
@@ -36,6 +36,41 @@ impl<W: Wire, F: LogFile, S: Source> Host<'_, '_, W, F, S> {
             self.moment.renew(fresh);
         }
         Ok(())
+    }
+
+    /// All outs are carried out, one after another. Long texts and a long reply go with their memory.
+    fn carry_all(&mut self, outs: &mut Outs) -> Result<(), LoopFault>
+        ensures carried { CarriesAs result (outs_of outs.old) (stage_in W.links W.failures F.told F.synced self.old) (stage_in W.links W.failures F.told F.synced self.new) }
+        ensures moment { moment_in S.drawn self.new ≡ moment_in S.drawn self.old }
+        ensures same { IsSame W.waited S.clock self.old self.new }
+        ensures device { IsErrOf result LoopFault.File → self.new.log.now.broken ≡ true }
+    {
+        self.carry_first(outs)?;
+        match outs.take_last() {
+            Some((link, mut reply)) => {
+                self.carry_out(outs)?;
+                let queued = self.own.send_whole(link, &mut reply);
+                outs.keep_reply(reply);
+                kept(queued)
+            }
+            None => self.carry_out(outs),
+        }
+    }
+
+    /// Long texts in front wait for the file, with their memory where nothing else does.
+    fn carry_first(&mut self, outs: &mut Outs) -> Result<(), LoopFault>
+        ensures ok { OnOk result (SoFar (outs_of outs.old) (outs_of outs.new) (stage_in W.links W.failures F.told F.synced self.old) (stage_in W.links W.failures F.told F.synced self.new)) }
+        ensures err { OnErr result (CarriesAs result (outs_of outs.old) (stage_in W.links W.failures F.told F.synced self.old) (stage_in W.links W.failures F.told F.synced self.new)) }
+        ensures fault { IfErr result (λ e. e ≡ LoopFault.Stopped) }
+        ensures moment { moment_in S.drawn self.new ≡ moment_in S.drawn self.old }
+        ensures same { IsSame W.waited S.clock self.old self.new }
+    {
+        let Some(mut texts) = outs.take_first() else {
+            return Ok(());
+        };
+        let queued = self.own.file_whole(&mut texts);
+        outs.keep_texts(texts);
+        kept(queued)
     }
 
     /// All outs are carried out, one after another.

@@ -191,6 +191,19 @@ impl Links {
             }
         }
     }
+
+    /// As `file`, of texts that aren't copied where nothing waits: they change places with the room of what waits, and what stands in
+    /// `texts` then says nothing.
+    pub(crate) fn file_whole(&mut self, texts: &mut Vec<u8>) -> Result<(), AllocError>
+        ensures ok { OnOk result (self.new ≡ filed texts.old.items self.old) }
+        ensures err { OnErr result (self.new ≡ lacking self.old) }
+    {
+        if !self.batch.is_empty() {
+            return self.file(texts.as_slice());
+        }
+        mem::swap(&mut self.batch, texts);
+        Ok(())
+    }
 }
 
 // The connections.
@@ -250,6 +263,20 @@ impl Links {
         ensures err { OnErr result (self.new ≡ lacking self.old) }
     {
         match self.connections.send(link, bytes) {
+            Ok(()) => Ok(()),
+            Err(refused) => {
+                self.lack();
+                Err(refused)
+            }
+        }
+    }
+
+    /// As `send`, of bytes that aren't copied where nothing waits there, as `file_whole` has it.
+    pub(crate) fn send_whole(&mut self, link: LinkId, bytes: &mut Vec<u8>) -> Result<(), AllocError>
+        ensures ok { OnOk result (self.new ≡ with_connections (sent link bytes.old.items) self.old) }
+        ensures err { OnErr result (self.new ≡ lacking self.old) }
+    {
+        match self.connections.send_whole(link, bytes) {
             Ok(()) => Ok(()),
             Err(refused) => {
                 self.lack();

@@ -1,7 +1,7 @@
 use Rattle.std.proofs.Common.{◌≡◌}
 use Rattle.mr_outs.specs.Outs.{outs_of}
 use Rattle.mr_loop.specs.Hosts.{IsSame, moment_in, stage_in}
-use Rattle.mr_loop.proofs.Outs.{SoFar}
+use Rattle.mr_loop.specs.Carrying.{SoFar}
 use Rattle.mr_loop.proofs.host.Host.carry_out.Given as goal
 
 -- some outs are carried out, and the others are left
