@@ -1,35 +1,33 @@
 -- What is put into a part or taken from it is put into all or taken from all.
 use Rattle.std.proofs.Common.{◌≡◌, ℕ, ◌+◌, ◌-◌, ◌<◌, ◌≤◌, List, Bool, true, false, Option, Some, None, length, get_or, take, set, refl, sym, subst, ap, ◌∙◌, arith}
-use Rattle.std.specs.Prelude.{IfOk, OnErr, OnOk, Result, Ok, Err, if◌then◌else◌, is_some}
-use Rattle.std.specs.Result.{is_err, is_ok}
+use Rattle.std.specs.Prelude.{IfOk, OnErr, Result, Ok, Err, is_some}
+use Rattle.std.specs.Result.{is_ok}
 use Rattle.std.specs.declared.cmp.Ordering.{Ordering}
 use Rattle.std.specs.BTreeSet.{insert_key}
 use Rattle.std.specs.Cmp.{IsTotalOrder}
 use Rattle.std.specs.List.{All, flat_map, insert, remove}
 use Rattle.std.specs.List.Sorted.{IsStrictlySortedBy}
 use Rattle.std.proofs.lemmas.List.Concat.{get_or-flat_map}
-use Rattle.std.proofs.lemmas.List.Edits.{length-insert, length-remove}
-use Rattle.mr_order.specs.Changes.{IsFound, IsItemAt, IsPut, IsTaken, left_at, put_at}
-use Rattle.mr_order.specs.Parts.{AreCounted, IsSound, length_limit}
+use Rattle.std.proofs.lemmas.List.Edits.{length-remove}
+use Rattle.mr_order.specs.Changes.{IsFound, IsItemAt, IsOther, IsPut, IsTaken, left_at, put_at}
+use Rattle.mr_order.specs.Parts.{AreCounted, IsSound}
 use Rattle.mr_order.specs.Standing.{IsBetween, IsPlaceOf, Tells, shifted}
-use Rattle.mr_order.proofs.Flat.{flat_insert, flat_remove, flat_same, flat_take}
-use Rattle.mr_order.proofs.Kept.{insert_absent, insert_present, sorted_insert, sorted_remove}
-use Rattle.mr_order.proofs.Levels.{counted_insert, counted_remove, counted_same}
+use Rattle.mr_order.proofs.Flat.{flat_insert, flat_remove, flat_replace, flat_same, flat_take}
+use Rattle.mr_order.proofs.Kept.{insert_absent, insert_present, sorted_insert, sorted_remove, sorted_set}
+use Rattle.mr_order.proofs.Levels.{counted_remove, counted_same}
 use Rattle.mr_order.proofs.Locating.{in_named}
 use Rattle.mr_order.proofs.Narrow.{place_in}
-
-err_shifted : (start : ℕ) (found : Result ℕ ℕ) → is_err (shifted start found) ≡ is_err found
-err_shifted start (Ok at) = refl
-err_shifted start (Err at) = refl
 
 pub if_ok_map : {T E : Type 0} {P Q : T → Type 0} (r : Result T E) → ((x : T) → P x → Q x) → IfOk r P → IfOk r Q
 if_ok_map (Ok x) f p = f x p
 if_ok_map (Err y) f p = tt
 
 module _ {X A : Type 0} (compare : A → Ordering) (f : X → List A) (xs : List X) (i : ℕ) (d v : X) (within : i < length xs) (is : d ≡ get_or xs i d) where
-  put_news : (y : A) (r : Result ℕ ℕ) → IsPlaceOf compare (f d) r → f v ≡ put_at r y (f d) → flat_map f (set xs i v) ≡ put_at (shifted (length (flat_map f (take i xs))) r) y (flat_map f xs)
-  put_news y (Ok at) stands e = flat_same f xs i v d within (e ∙ ap f is)
-  put_news y (Err at) stands e =
+  put_news : (y : A) (b : Bool) (r : Result ℕ ℕ) → IsPlaceOf compare (f d) r → f v ≡ put_at r b y (f d) → flat_map f (set xs i v) ≡ put_at (shifted (length (flat_map f (take i xs))) r) b y (flat_map f xs)
+  put_news y true (Ok at) stands e =
+      flat_replace f xs i at _ v d y within refl (subst (λ p. at < length (f p)) is stands.within) (e ∙ ap (λ p. set (f p) at y) is)
+  put_news y false (Ok at) stands e = flat_same f xs i v d within (e ∙ ap f is)
+  put_news y b (Err at) stands e =
       flat_insert f xs i at _ v d y within refl (subst (λ p. at ≤ length (f p)) is stands.within) (e ∙ ap (λ p. insert (f p) at y) is)
 
   taken_rest : (r : Result ℕ ℕ) → IsPlaceOf compare (f d) r → f v ≡ left_at r (f d) → flat_map f (set xs i v) ≡ left_at (shifted (length (flat_map f (take i xs))) r) (flat_map f xs)
@@ -43,6 +41,11 @@ module _ {X A : Type 0} (compare : A → Ordering) (f : X → List A) (xs : List
       h ∙ ap (λ p. get_or (f p) at x) is ∙ sym (get_or-flat_map f xs i at d x within (subst (λ p. at < length (f p)) is stands.within))
   taken_item (Err at) t stands h = h
 
+  other_item : (y : A) (b : Bool) (r : Result ℕ ℕ) (t : Option A) → IsPlaceOf compare (f d) r → IsOther r b y (f d) t → IsOther (shifted (length (flat_map f (take i xs))) r) b y (flat_map f xs) t
+  other_item y true (Ok at) t stands h = taken_item (Ok at) t stands h
+  other_item y false (Ok at) t stands h = h
+  other_item y b (Err at) t stands h = h
+
   module _ (between : IsBetween compare (flat_map f xs) (length (flat_map f (take i xs))) (length (flat_map f (take (i + 1) xs)))) where
     place_of_all : (r : Result ℕ ℕ) → IsPlaceOf compare (f d) r → IsPlaceOf compare (flat_map f xs) (shifted (length (flat_map f (take i xs))) r)
     place_of_all r stands =
@@ -50,12 +53,12 @@ module _ {X A : Type 0} (compare : A → Ordering) (f : X → List A) (xs : List
         let ends : length (flat_map f (take (i + 1) xs)) ≤ start + length (f d) = let more = flat_take f xs i d within in let same = ap (λ p. length (f p)) is in omega arith in
         place_in compare (flat_map f xs) (f d) start (in_named f xs i d within is) start _ between (omega arith) ends r stands
 
-    pub put_in : (y : A) (b : Bool) → IsPut compare (f d) y (f v) b → IsPut compare (flat_map f xs) y (flat_map f (set xs i v)) b
-    put_in y b p = record {
+    pub put_in : (y : A) (b : Bool) (t : Option A) → IsPut compare (f d) y b (f v) t → IsPut compare (flat_map f xs) y b (flat_map f (set xs i v)) t
+    put_in y b t p = record {
       place = shifted (length (flat_map f (take i xs))) p.place;
       is = place_of_all p.place p.is;
-      told = err_shifted (length (flat_map f (take i xs))) p.place ∙ p.told;
-      put = put_news y p.place p.is p.put;
+      answered = other_item y b p.place t p.is p.answered;
+      put = put_news y b p.place p.is p.put;
     }
 
     pub found_in : (t : Option A) → IsFound compare (f d) t → IsFound compare (flat_map f xs) t
@@ -74,13 +77,6 @@ module _ {X A : Type 0} (compare : A → Ordering) (f : X → List A) (xs : List
     }
 
 module _ {A : Type 0} (compare : A → Ordering) (items : List A) where
-  -- there are no fewer items once one is put in
-  pub put_some : (y : A) (news : List A) (b : Bool) → IsPut compare items y news b → 0 < length items → 0 < length news
-  put_some y news b p some = by p.place p.is p.put where
-    by : (r : Result ℕ ℕ) → IsPlaceOf compare items r → news ≡ put_at r y items → 0 < length news
-    by (Ok at) stands e = omega (arith, ap length e)
-    by (Err at) stands e = let long = length-insert items at y stands.within in omega (arith, ap length e)
-
   -- something is left of more than one item
   pub taken_some : (t : Option A) (rest : List A) → IsTaken compare items t rest → 1 < length items → 0 < length rest
   taken_some t rest k some = by k.place k.is k.left where
@@ -122,18 +118,6 @@ module _ {A : Type 0} (compare : A → Ordering) (items : List A) where
   }
 
 module _ {P A : Type 0} (compare : A → Ordering) (items : P → List A) (is_kept : P → Type 0) (parts news : List P) (len : ℕ) (c : AreCounted items is_kept parts len) (sound : All (IsSound items is_kept) news) where
-  pub counted_new : (x : A) → len < length_limit → IsPut compare (flat_map items parts) x (flat_map items news) true → AreCounted items is_kept news (len + 1)
-  counted_new x room p = by p.place p.is p.told p.put where
-    by : (r : Result ℕ ℕ) → IsPlaceOf compare (flat_map items parts) r → is_err r ≡ true → flat_map items news ≡ put_at r x (flat_map items parts) → AreCounted items is_kept news (len + 1)
-    by (Ok at) stands told e = cc
-    by (Err at) stands told e = counted_insert items is_kept parts news len c sound at x e stands.within room
-
-  pub counted_old : (x : A) → IsPut compare (flat_map items parts) x (flat_map items news) false → AreCounted items is_kept news len
-  counted_old x p = by p.place p.told p.put where
-    by : (r : Result ℕ ℕ) → is_err r ≡ false → flat_map items news ≡ put_at r x (flat_map items parts) → AreCounted items is_kept news len
-    by (Ok at) told e = counted_same items is_kept parts news len c sound e
-    by (Err at) told e = cc
-
   pub counted_taken : (x : A) → IsTaken compare (flat_map items parts) (Some x) (flat_map items news) → AreCounted items is_kept news (len - 1)
   counted_taken x k = by k.place k.is k.item k.left where
     by : (r : Result ℕ ℕ) → IsPlaceOf compare (flat_map items parts) r → IsItemAt r (flat_map items parts) (Some x) → flat_map items news ≡ left_at r (flat_map items parts) → AreCounted items is_kept news (len - 1)
@@ -151,35 +135,25 @@ module _ {P A : Type 0} (compare : A → Ordering) (items : P → List A) (is_ke
     by (Err at) stands h = absurd h
 
 -- what is put in order, and what is left in order
-module _ {K : Type 0} (R : K → K → Ordering) (x : K) (xs ys : List K) (b : Bool) (p : IsPut (R x) xs x ys b) where
-  pub put_key : ys ≡ insert_key R xs x
-  put_key = by p.place p.is p.put where
-    by : (r : Result ℕ ℕ) → IsPlaceOf (R x) xs r → ys ≡ put_at r x xs → ys ≡ insert_key R xs x
-    by (Ok at) stands e = e ∙ sym (insert_present R x xs at stands)
-    by (Err at) stands e = e ∙ sym (insert_absent R x xs at stands)
+module _ {K : Type 0} (R : K → K → Ordering) (x : K) (xs ys : List K) where
+  module _ (t : Option K) (p : IsPut (R x) xs x false ys t) where
+    pub put_key : ys ≡ insert_key R xs x
+    put_key = by p.place p.is p.put where
+      by : (r : Result ℕ ℕ) → IsPlaceOf (R x) xs r → ys ≡ put_at r false x xs → ys ≡ insert_key R xs x
+      by (Ok at) stands e = e ∙ sym (insert_present R x xs at stands)
+      by (Err at) stands e = e ∙ sym (insert_absent R x xs at stands)
 
-  pub put_length : length ys ≡ length xs + (if b then 1 else 0)
-  put_length = by p.place b p.is p.told p.put where
-    by : (r : Result ℕ ℕ) (a : Bool) → IsPlaceOf (R x) xs r → is_err r ≡ a → ys ≡ put_at r x xs → length ys ≡ length xs + (if a then 1 else 0)
-    by (Ok at) true stands told e = cc
-    by (Ok at) false stands told e = omega (arith, ap length e)
-    by (Err at) true stands told e = let long = length-insert xs at x stands.within in omega (arith, ap length e)
-    by (Err at) false stands told e = cc
+  module _ (total : IsTotalOrder R) (b : Bool) where
+    pub put_sorted : (t : Option K) → IsPut (R x) xs x b ys t → IsStrictlySortedBy R xs → IsStrictlySortedBy R ys
+    put_sorted t p sorted = by b p.place p.is p.put where
+      by : (a : Bool) (r : Result ℕ ℕ) → IsPlaceOf (R x) xs r → ys ≡ put_at r a x xs → IsStrictlySortedBy R ys
+      by true (Ok at) stands e = subst (IsStrictlySortedBy R) (sym e) (sorted_set R total x xs at sorted stands.within (stands.here x))
+      by false (Ok at) stands e = subst (IsStrictlySortedBy R) (sym e) sorted
+      by a (Err at) stands e = subst (IsStrictlySortedBy R) (sym e) (sorted_insert R total x xs at sorted stands)
 
-  pub put_sorted : IsTotalOrder R → IsStrictlySortedBy R xs → IsStrictlySortedBy R ys
-  put_sorted total sorted = by p.place p.is p.put where
-    by : (r : Result ℕ ℕ) → IsPlaceOf (R x) xs r → ys ≡ put_at r x xs → IsStrictlySortedBy R ys
-    by (Ok at) stands e = subst (IsStrictlySortedBy R) (sym e) sorted
-    by (Err at) stands e = subst (IsStrictlySortedBy R) (sym e) (sorted_insert R total x xs at sorted stands)
-
-module _ {K E : Type 0} (R : K → K → Ordering) (x : K) (xs ys : List K) where
-  pub put_keys : (r : Result Bool E) → IfOk r (λ b. IsPut (R x) xs x ys b) → OnOk r (ys ≡ insert_key R xs x)
-  put_keys (Ok b) p = put_key R x xs ys b p
-  put_keys (Err e) p = tt
-
-  pub put_keeps : IsTotalOrder R → (r : Result Bool E) → IfOk r (λ b. IsPut (R x) xs x ys b) → OnErr r (ys ≡ xs) → IsStrictlySortedBy R xs → IsStrictlySortedBy R ys
-  put_keeps total (Ok b) p same sorted = put_sorted R x xs ys b p total sorted
-  put_keeps total (Err e) p same sorted = subst (IsStrictlySortedBy R) (sym same) sorted
+    pub put_keeps : {E : Type 0} (r : Result (Option K) E) → IfOk r (λ t. IsPut (R x) xs x b ys t) → OnErr r (ys ≡ xs) → IsStrictlySortedBy R xs → IsStrictlySortedBy R ys
+    put_keeps (Ok t) p same sorted = put_sorted t p sorted
+    put_keeps (Err e) p same sorted = subst (IsStrictlySortedBy R) (sym same) sorted
 
 pub taken_sorted : {K : Type 0} (R : K → K → Ordering) (total : IsTotalOrder R) (compare : K → Ordering) (xs ys : List K) (t : Option K) → IsTaken compare xs t ys → IsStrictlySortedBy R xs → IsStrictlySortedBy R ys
 taken_sorted {K} R total compare xs ys t k sorted = by k.place t k.is k.item k.left where

@@ -1,11 +1,11 @@
 -- Parts that are counted stay counted.
 use Rattle.std.proofs.Common.{◌≡◌, ℕ, ◌+◌, ◌-◌, ◌/◌, ◌<◌, ◌≤◌, List, [], ◌∷◌, ◌++◌, length, take, drop, true, false, sym, ap, ◌∙◌, arith, length-append}
 use Rattle.std.specs.Prelude.{nat_le}
-use Rattle.std.specs.List.{All, flat_map, insert, remove}
+use Rattle.std.specs.List.{All, flat_map, remove}
 use Rattle.std.proofs.lemmas.Bool.Decides.{nat_tests}
 use Rattle.std.proofs.lemmas.List.{append-nil, length-drop, length-take-le}
 use Rattle.std.proofs.lemmas.List.Concat.{flat_map-append}
-use Rattle.std.proofs.lemmas.List.Edits.{length-insert, length-remove}
+use Rattle.std.proofs.lemmas.List.Edits.{length-remove}
 use Rattle.std.proofs.lemmas.List.Elements.{All-append, All-cons, All-drop, All-head, All-nil, All-take}
 use Rattle.mr_order.specs.Parts.{IsSound, AreCounted, IsLevel, length_limit}
 use Rattle.mr_order.proofs.Flat.{flat_cut}
@@ -38,13 +38,6 @@ module _ {P A : Type 0} (items : P → List A) (is_kept : P → Type 0) where
   module _ (parts news : List P) (len : ℕ) (c : AreCounted items is_kept parts len) (sound : All (IsSound items is_kept) news) where
     pub counted_same : flat_map items news ≡ flat_map items parts → AreCounted items is_kept news len
     counted_same same = record { sound = sound; counted = c.counted ∙ ap length (sym same); small = c.small }
-
-    pub counted_insert : (at : ℕ) (x : A) → flat_map items news ≡ insert (flat_map items parts) at x → at ≤ length (flat_map items parts) → len < length_limit → AreCounted items is_kept news (len + 1)
-    counted_insert at x is within room = record {
-      sound = sound;
-      counted = (let was = c.counted in let long = length-insert (flat_map items parts) at x within in let e = ap length is in omega arith);
-      small = omega arith;
-    }
 
     pub counted_remove : (at : ℕ) → flat_map items news ≡ remove (flat_map items parts) at → at < length (flat_map items parts) → AreCounted items is_kept news (len - 1)
     counted_remove at is within = record {

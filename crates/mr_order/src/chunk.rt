@@ -56,13 +56,14 @@ impl<T: Ord + Drop> Part for Vec<T> {
         Ok(())
     }
 
-    fn put(&mut self, item: T) -> Result<bool, AllocError> {
+    fn put(&mut self, item: T, replaces: bool) -> Result<Option<T>, AllocError> {
         match self.locate(&item) {
-            Ok(_) => Ok(false),
+            Ok(at) if replaces => Ok(Some(replace(&mut self[at], item))),
+            Ok(_) => Ok(Some(item)),
             Err(at) => {
                 make_room(self)?;
                 Vec::insert(self, at, item)?;
-                Ok(true)
+                Ok(None)
             }
         }
     }

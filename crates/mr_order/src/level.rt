@@ -95,16 +95,15 @@ impl<P: Part> Part for Level<P> {
         Ok(())
     }
 
-    fn put(&mut self, item: P::Item) -> Result<bool, AllocError> {
+    fn put(&mut self, item: P::Item, replaces: bool) -> Result<Option<P::Item>, AllocError> {
         if self.len == LENGTH_LIMIT {
             return Err(AllocError);
         }
-        if put_into(&mut self.parts, self.len, item)? {
+        let other = put_into(&mut self.parts, self.len, item, replaces)?;
+        if other.is_none() {
             self.len += 1;
-            Ok(true)
-        } else {
-            Ok(false)
         }
+        Ok(other)
     }
 
     fn set(&mut self, at: usize, item: P::Item) -> P::Item {

@@ -1,12 +1,12 @@
 // Items in strict order.
-ghost use Rattle.std.specs.Prelude.{◌≡◌, ◌==◌, ◌+◌, ◌-◌, ◌∷◌, ◌++◌, ◌<◌, ◌≤◌, ◌^◌, ℕ, [], IfOk, IsTrue, MatchOption, OnErr, OnOk, drop, if◌then◌else◌, length, option_copied, set, slice_get, slice_index_or, slice_range, take};
+ghost use Rattle.std.specs.Prelude.{◌≡◌, ◌==◌, ◌+◌, ◌-◌, ◌∷◌, ◌++◌, ◌<◌, ◌≤◌, ◌^◌, ℕ, [], IfOk, IsTrue, MatchOption, OnErr, OnOk, drop, if◌then◌else◌, length, option_copied, set, slice_get, slice_index_or, slice_range, take, true};
 ghost use Rattle.std.specs.declared.cmp.Ordering.TheVariants.{Equal, Greater};
 ghost use Rattle.std.specs.BTreeSet.{insert_key};
-ghost use Rattle.std.specs.List.{insert, remove};
+ghost use Rattle.std.specs.List.{remove};
 ghost use Rattle.std.specs.List.Sorted.{IsPartitionPoint, IsStrictlySortedBy};
 ghost use Rattle.std.specs.Ordering.{is_le};
-ghost use Rattle.mr_order.specs.Changes.{IsFound, IsTaken};
-ghost use Rattle.mr_order.specs.Standing.{IsPlaceOf, StandsBefore, Tells};
+ghost use Rattle.mr_order.specs.Changes.{IsFound, IsPut, IsTaken};
+ghost use Rattle.mr_order.specs.Standing.{IsPlaceOf, Tells};
 ghost use Rattle.mr_order.specs.Parts.{length_limit};
 
 use crate::iter::Iter;
@@ -157,17 +157,17 @@ impl<T: Ord + Drop> Ordered<T> {
         ensures added { IfOk result (λ added. length self.new ≡ length self.old + (if added then 1 else 0)) }
         ensures err { OnErr result (self.new ≡ self.old) }
     {
-        self.places.put(item)
+        let other = self.places.put(item, false)?;
+        Ok(other.is_none())
     }
 
-    /// Puts an item where it stands at a place, which a search for it has answered. Where memory runs out, all is as it was.
-    pub fn insert_at(&mut self, at: usize, item: T) -> Result<(), AllocError>
-        requires { StandsBefore (T.cmp item) self.old at }
-        ensures ok { OnOk result (self.new ≡ insert self.old at item) }
+    /// Puts an item where it stands in order, in the place of an equal one, which it answers. Where memory runs out, all is as
+    /// it was; to replace an item takes none.
+    pub fn replace(&mut self, item: T) -> Result<Option<T>, AllocError>
+        ensures ok { IfOk result (λ before. IsPut (T.cmp item) self.old item true self.new before) }
         ensures err { OnErr result (self.new ≡ self.old) }
     {
-        self.places.insert(at, item)?;
-        Ok(())
+        self.places.put(item, true)
     }
 
     /// Puts an item in the place of an equal one, which it answers. It takes no memory.

@@ -67,14 +67,14 @@ pub(crate) trait Part: Drop {
         ensures ok { OnOk result (items self.new ≡ insert (items self.old) at item) }
         ensures err { OnErr result (items self.new ≡ items self.old) };
 
-    /// Puts an item where it stands in order, unless an equal one is there, and answers whether it is new. Where memory runs
-    /// out, the items stay.
-    fn put(&mut self, item: Self::Item) -> Result<bool, AllocError>
+    /// Puts an item where it stands in order. Where an equal one is there, it replaces that one or isn't put, and the other
+    /// of the two is answered. Where memory runs out, the items stay.
+    fn put(&mut self, item: Self::Item, replaces: bool) -> Result<Option<Self::Item>, AllocError>
         requires kept { is_kept self.old }
         requires room { is_full self.old ≡ false }
         requires divided { IsDivided (Self.Item.cmp item) (items self.old) }
         ensures kept { is_kept self.new }
-        ensures ok { IfOk result (λ added. IsPut (Self.Item.cmp item) (items self.old) item (items self.new) added) }
+        ensures ok { IfOk result (λ other. IsPut (Self.Item.cmp item) (items self.old) item replaces (items self.new) other) }
         ensures err { OnErr result (items self.new ≡ items self.old) };
 
     /// Puts an item in the place of another, which it answers.

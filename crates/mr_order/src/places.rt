@@ -91,35 +91,32 @@ impl<T: Ord + Drop> Places<T> {
         }
     }
 
-    /// Puts an item where it stands, in a list that it divides, unless an equal one is there, and answers whether it is new.
-    /// Where memory runs out, the list is as it was.
-    pub fn put(&mut self, item: T) -> Result<bool, AllocError>
+    /// Puts an item where it stands, in a list that it divides. Where an equal one is there, it replaces that one or isn't
+    /// put, and the other of the two is answered. Where memory runs out, the list is as it was.
+    pub fn put(&mut self, item: T, replaces: bool) -> Result<Option<T>, AllocError>
         requires { IsDivided (T.cmp item) self.old }
-        ensures ok { IfOk result (λ added. IsPut (T.cmp item) self.old item self.new added) }
+        ensures ok { IfOk result (λ other. IsPut (T.cmp item) self.old item replaces self.new other) }
         ensures err { OnErr result (self.new ≡ self.old) }
     {
         let len = self.len();
-        if len == LENGTH_LIMIT {
-            return Err(AllocError);
-        }
         match &mut self.root {
-            Root::Chunk(_) => self.put_by_place(item),
-            Root::Blocks(blocks) => put_into(blocks, len, item),
+            Root::Blocks(blocks) if len < LENGTH_LIMIT => put_into(blocks, len, item, replaces),
+            _ => self.put_by_place(item, replaces),
         }
     }
 
-    /// Puts an item where a search has found its place, and answers whether it is new: one that is there takes no
-    /// memory. Where memory runs out, the items stay.
-    fn put_by_place(&mut self, item: T) -> Result<bool, AllocError>
+    /// The same, where a search has found the place: where an equal item is there it takes no memory.
+    fn put_by_place(&mut self, item: T, replaces: bool) -> Result<Option<T>, AllocError>
         requires { IsDivided (T.cmp item) self.old }
-        ensures ok { IfOk result (λ added. IsPut (T.cmp item) self.old item self.new added) }
+        ensures ok { IfOk result (λ other. IsPut (T.cmp item) self.old item replaces self.new other) }
         ensures err { OnErr result (self.new ≡ self.old) }
     {
         match self.locate(&item) {
-            Ok(_) => Ok(false),
+            Ok(at) if replaces => Ok(Some(self.set(at, item))),
+            Ok(_) => Ok(Some(item)),
             Err(at) => {
                 self.insert(at, item)?;
-                Ok(true)
+                Ok(None)
             }
         }
     }

@@ -12,7 +12,7 @@ use Rattle.std.proofs.lemmas.Cmp.{nat_list_cmp_total, tied_itself}
 use Rattle.std.proofs.lemmas.List.{length-map}
 use Rattle.std.proofs.lemmas.Map.Lookups.{exact_bytes}
 use Rattle.mr_map.specs.Bytes.{bytes_cmp, ByteMap}
-use Rattle.mr_order.specs.Changes.{IsFound, IsItemAt, IsTaken, left_at}
+use Rattle.mr_order.specs.Changes.{IsFound, IsItemAt, IsOther, IsPut, IsTaken, left_at, put_at}
 use Rattle.mr_order.specs.Standing.{IsPlaceOf, StandsAt, StandsBefore}
 use Rattle.mr_value.specs.declared.named.Named.{Named}
 use Rattle.mr_value.specs.Named.{name_cmp, entry, values_of}
@@ -79,6 +79,13 @@ module _ {V : Type 0} where
   pub value_taken : (q : List ℕ) (xs ys : List (Named V)) (t : Option (Named V)) → IsTaken (λ y. bytes_cmp q y.name) xs t ys → option_map (λ x. x.value) t ≡ finite.get (values_of xs) q
   value_taken q xs ys t f = told q xs f.place t f.is f.item
 
+  pub value_put : (x : Named V) (xs ys : List (Named V)) (t : Option (Named V)) → IsPut (λ y. bytes_cmp x.name y.name) xs x true ys t → option_map (λ y. y.value) t ≡ finite.get (values_of xs) x.name
+  value_put x xs ys t p = by p.place t p.is p.answered where
+    by : (r : Result ℕ ℕ) (u : Option (Named V)) → IsPlaceOf (λ y. bytes_cmp x.name y.name) xs r → IsOther r true x xs u → option_map (λ y. y.value) u ≡ finite.get (values_of xs) x.name
+    by (Ok at) u stands h = told x.name xs (Ok at) u stands h
+    by (Err at) None stands h = told x.name xs (Err at) None stands tt
+    by (Err at) (Some y) stands h = cc
+
   -- the value of the name at a place, and none of one that stands nowhere
   pub value_at : (q : List ℕ) (xs : List (Named V)) (at : ℕ) (d : Named V) → StandsAt (λ y. bytes_cmp q y.name) xs at → finite.get (values_of xs) q ≡ Some (get_or xs at d).value
   value_at q xs at d stands = get_kept xs q ∙ there q xs at d stands.within stands.front stands.here
@@ -95,7 +102,7 @@ module _ {V : Type 0} where
       ap (λ o. cond (is_same q y.name) (Some y.value) o) (kept_inserted x q ys at (λ k d lo lt. front (suc k) d (omega arith) (omega arith)))
       ∙ swapped (is_same q y.name) (is_same q x.name) (Some y.value) (Some x.value) (kept q ys) (apart q x.name y.name (front zero y (omega arith) (omega arith)))
 
-  pub values_inserted : (x : Named V) (xs : List (Named V)) (at : ℕ) → StandsBefore (λ y. bytes_cmp x.name y.name) xs at → values_of (insert xs at x) ≡ finite.insert (values_of xs) x.name x.value
+  values_inserted : (x : Named V) (xs : List (Named V)) (at : ℕ) → StandsBefore (λ y. bytes_cmp x.name y.name) xs at → values_of (insert xs at x) ≡ finite.insert (values_of xs) x.name x.value
   values_inserted x xs at stands = same_values _ _ (λ q.
       get_kept (insert xs at x) q ∙ kept_inserted x q xs at stands.front
       ∙ sym (finite.get-insert nat_list_cmp_total (values_of xs) x.name x.value q ∙ ap (λ o. cond (is_same q x.name) (Some x.value) o) (get_kept xs q)))
@@ -115,6 +122,13 @@ module _ {V : Type 0} where
   values_set x xs at stands = same_values _ _ (λ q.
       get_kept (set xs at x) q ∙ kept_set x q xs at stands.within stands.front stands.here
       ∙ sym (finite.get-insert nat_list_cmp_total (values_of xs) x.name x.value q ∙ ap (λ o. cond (is_same q x.name) (Some x.value) o) (get_kept xs q)))
+
+  -- a name comes, or has another value
+  pub values_put : (x : Named V) (xs ys : List (Named V)) (t : Option (Named V)) → IsPut (λ y. bytes_cmp x.name y.name) xs x true ys t → values_of ys ≡ finite.insert (values_of xs) x.name x.value
+  values_put x xs ys t p = ap values_of p.put ∙ by p.place p.is where
+    by : (r : Result ℕ ℕ) → IsPlaceOf (λ y. bytes_cmp x.name y.name) xs r → values_of (put_at r true x xs) ≡ finite.insert (values_of xs) x.name x.value
+    by (Ok at) stands = values_set x xs at stands
+    by (Err at) stands = values_inserted x xs at stands
 
   -- a name goes
 

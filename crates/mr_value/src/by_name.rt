@@ -102,17 +102,8 @@ impl<V: Drop> ByName<V> {
         ensures ok { OnOk result (self.new ≡ map.insert self.old name value) }
         ensures err { OnErr result (self.new ≡ self.old) }
     {
-        let named = Named { name, value };
-        match self.named.locate(&named) {
-            Ok(at) => {
-                let before = self.named.replace_at(at, named);
-                Ok(Some(before.into_value()))
-            }
-            Err(at) => {
-                self.named.insert_at(at, named)?;
-                Ok(None)
-            }
-        }
+        let before = self.named.replace(Named { name, value })?;
+        Ok(before.map(|named| named.into_value()))
     }
 
     /// Gives a name that is there another value, and answers the one before. It takes no memory.

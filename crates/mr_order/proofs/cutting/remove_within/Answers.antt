@@ -1,4 +1,4 @@
-use Rattle.std.proofs.Common.{get_or, refl, ap, ◌∙◌}
+use Rattle.std.proofs.Common.{refl, ap, ◌∙◌}
 use Rattle.std.specs.List.{remove_range}
 use Rattle.mr_order.proofs.Ranges.{flat_range}
 use Rattle.mr_order.proofs.cutting.remove_within.Goals as goal

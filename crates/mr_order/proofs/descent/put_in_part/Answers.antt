@@ -16,7 +16,7 @@ put-requires-clause-divided g c =
 pub returns-clause-ok : goal.returns-clause-ok
 returns-clause-ok g c =
     if_ok_map c.put.result
-    (λ b p. put_in (g.P.Item.Ord.cmp c.args.item) g.P.Part.items c.args.parts.now.items c.args.part c.index_mut.result.now c.put.new.self c.requires.part c.index_mut.ensures.value c.requires.between c.args.item b p)
+    (λ t p. put_in (g.P.Item.Ord.cmp c.args.item) g.P.Part.items c.args.parts.now.items c.args.part c.index_mut.result.now c.put.new.self c.requires.part c.index_mut.ensures.value c.requires.between c.args.item c.args.replaces t p)
     c.put.ensures.ok
 
 pub returns-clause-err : goal.returns-clause-err

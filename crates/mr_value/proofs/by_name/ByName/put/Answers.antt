@@ -1,24 +1,16 @@
-use Rattle.std.proofs.Common.{◌∙◌, Some, sym, ap}
+use Rattle.std.proofs.Common.{◌≡◌, ◌∙◌, rules, ap}
+use Rattle.std.specs.Prelude.{option_map}
 use Rattle.std.specs.FinMap.{get, insert}
-use Rattle.mr_value.specs.Named.{values_of}
-use Rattle.mr_value.proofs.NamedLemmas.{no_value, value_at, values_inserted, values_set}
+use Rattle.mr_value.proofs.NamedLemmas.{value_put, values_put}
 use Rattle.mr_value.proofs.by_name.ByName.put.Goals as goal
 
-pub returns-in-Ok-clause-before : goal.returns-in-Ok-clause-before
-returns-in-Ok-clause-before g c =
-    ap (λ v. Some v) c.into_value.ensures ∙ ap (λ x. Some x.value) c.replace_at-before.ensures.before
-    ∙ sym (value_at c.args.name c.self.inside.named c.in-Ok.at c.replace_at-before.result c.in-Ok.ensures) ∙ ap (λ m. get m c.args.name) c.self.view_is
+pub returns-clause-before : goal.returns-clause-before
+returns-clause-before g c =
+    let mapped : c.map.result ≡ option_map (λ x. x.value) c.in_ok-before.before = search rules in
+    mapped ∙ value_put _ c.self.inside.named c.replace.new.self c.in_ok-before.before c.in_ok-before.ensures.ok
+    ∙ ap (λ m. get m c.args.name) c.self.view_is
 
-pub returns-in-Ok-clause-ok : goal.returns-in-Ok-clause-ok
-returns-in-Ok-clause-ok g c =
-    ap values_of c.replace_at-before.ensures.replaced ∙ values_set _ c.self.inside.named c.in-Ok.at c.in-Ok.ensures
-    ∙ ap (λ m. insert m c.args.name c.args.value) c.self.view_is
-
-pub returns-in_ok-insert_at-in-Err-clause-before : goal.returns-in_ok-insert_at-in-Err-clause-before
-returns-in_ok-insert_at-in-Err-clause-before g c =
-    sym (no_value c.args.name c.self.inside.named c.in-Err.at c.in-Err.ensures) ∙ ap (λ m. get m c.args.name) c.self.view_is
-
-pub returns-in_ok-insert_at-in-Err-clause-ok : goal.returns-in_ok-insert_at-in-Err-clause-ok
-returns-in_ok-insert_at-in-Err-clause-ok g c =
-    ap values_of c.in_ok-insert_at-in-Err.ensures.ok ∙ values_inserted _ c.self.inside.named c.in-Err.at c.in-Err.ensures
+pub returns-clause-ok : goal.returns-clause-ok
+returns-clause-ok g c =
+    values_put _ c.self.inside.named c.replace.new.self c.in_ok-before.before c.in_ok-before.ensures.ok
     ∙ ap (λ m. insert m c.args.name c.args.value) c.self.view_is
