@@ -3,6 +3,8 @@ pub mod PairLemmas
 pub mod Cuts
 pub mod StoredLemmas
 pub mod StoredChanges
+pub mod ScanLemmas
+pub mod NameLemmas
 pub mod LeavingLemmas
 pub mod BoundLemmas
 pub mod NoMember

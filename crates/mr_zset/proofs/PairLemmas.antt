@@ -41,7 +41,7 @@ HasScores-remove m k all q = subst (λ (o : Option ℤ). IfSome o (λ z. IsTrue 
 
 -- a member that is found is among the pairs
 
-some_inj : {A : Type 0} {x y : A} → Some x ≡ Some y → x ≡ y
+pub some_inj : {A : Type 0} {x y : A} → Some x ≡ Some y → x ≡ y
 some_inj e = cc
 
 later : (p : List ℕ × ℤ) (ps : List (List ℕ × ℤ)) (k : List ℕ) (z : ℤ) → 0 < times pair_cmp (k, z) ps → 0 < times pair_cmp (k, z) (p ∷ ps)
@@ -53,7 +53,7 @@ found_here p ps k z e g =
     let count : times pair_cmp (k, z) (p ∷ ps) ≡ suc (times pair_cmp p ps) = ap (λ (q : List ℕ × ℤ). times pair_cmp q (p ∷ ps)) same ∙ times-itself pairs_total p ps in
     omega arith
 
-found : (es : List (List ℕ × ℤ)) (k : List ℕ) (z : ℤ) → find bytes_cmp k es ≡ Some z → 0 < times pair_cmp (k, z) es
+pub found : (es : List (List ℕ × ℤ)) (k : List ℕ) (z : ℤ) → find bytes_cmp k es ≡ Some z → 0 < times pair_cmp (k, z) es
 found [] k z e = cc
 found (p ∷ ps) k z e = elim (bytes_cmp k p.0) as (λ r. bytes_cmp k p.0 ≡ r → cond (is_eq r) (Some p.1) (find bytes_cmp k ps) ≡ Some z → 0 < times pair_cmp (k, z) (p ∷ ps)) [
   | Less ↦ λ h g. later p ps k z (found ps k z g)

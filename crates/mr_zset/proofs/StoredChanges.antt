@@ -1,9 +1,6 @@
 -- Stored pairs that are those of a map, before and after one change.
 use Rattle.std.proofs.Common.{◌≡◌, ℕ, ◌+◌, ◌-◌, ◌≤◌, length, map, List, [], ◌∷◌, ◌++◌, Option, Some, None, Bool, true, false, cond, refl, sym, ◌∙◌, ap, subst, arith}
-use Rattle.std.specs.Prelude.{ℤ, IsTrue, OnErr, OnOk, MatchOption, filter, count_by, option_map, slice_get, slice_range}
-use Rattle.std.specs.Result.{is_err}
-use Rattle.std.specs.declared.result.Result.{Result}
-use Rattle.std.specs.declared.result.Result.TheVariants.{Ok, Err}
+use Rattle.std.specs.Prelude.{ℤ, IsTrue, MatchOption, filter, count_by, option_map, slice_get, slice_range}
 use Rattle.std.specs.Ordering.{int_eq, eq_by_cmp}
 use Rattle.std.specs.FinMap.{get, insert, remove, empty, entries, len, get-insert, get-remove, same_map}
 use Rattle.std.specs.BTreeSet.{insert_key}
@@ -19,7 +16,7 @@ use Rattle.mr_zset.specs.Stored.{AreStored, stored}
 use Rattle.mr_zset.proofs.Cuts.{length-slice_range}
 use Rattle.mr_zset.proofs.Orders.{IsPermutation-in_order, times}
 use Rattle.mr_zset.proofs.PairLemmas.{HasScores-empty, HasScores-insert, HasScores-remove, length-pairs_of}
-use Rattle.mr_zset.proofs.StoredLemmas.{first_taken, last_taken, pairs_none, filtered_itself, pair_of_map, put_back, put_moved, put_new, same_key, taken_out, times_more}
+use Rattle.mr_zset.proofs.StoredLemmas.{first_taken, last_taken, pairs_none, filtered_itself, pair_of_map, put_moved, put_new, same_key, taken_out, times_more}
 
 -- maps changed at one key
 
@@ -37,11 +34,11 @@ remove_absent m k h = same_map nat_list_cmp_total exact_bytes _ _ (λ q.
       | false ↦ λ t. refl
     ] refl)
 
-pub AreStored-empty : (m : ByteMap ℤ) (es : List Entry) → m ≡ empty → es ≡ [] → AreStored m es
-AreStored-empty m es none bare = subst (λ (n : ByteMap ℤ). AreStored n es) (sym none) (record {
+pub AreStored-empty : (es : List Entry) → es ≡ [] → AreStored empty es
+AreStored-empty es bare = record {
   within = HasScores-empty;
   same = ap (map stored) bare ∙ pairs_none;
-})
+}
 
 -- there are as many as members
 pub stored_len : (m n : ByteMap ℤ) (es : List Entry) → AreStored m es → m ≡ n → length es ≡ len n
@@ -53,25 +50,18 @@ same_pairs m es all k copy z fs same put = put ∙ ap (λ (ls : List (List ℕ �
 
 module _ (m : ByteMap ℤ) (es : List Entry) (all : AreStored m es) (k copy : List ℕ) (z : ℤ) (fs : List Entry) (same : copy ≡ k) (put : map stored fs ≡ insert_key pair_cmp (map stored es) (copy, z)) where
   -- a member comes
-  pub AreStored-added : (name : List ℕ) (score : ℤ) (n : ByteMap ℤ) → get m k ≡ None → IsTrue (is_score z) → name ≡ k → n ≡ insert m name score → score ≡ z → AreStored n fs
-  AreStored-added name score n absent fits named is same_score = subst (λ (x : ByteMap ℤ). AreStored x fs) (sym (is ∙ ap (λ (x : List ℕ). insert m x score) named ∙ ap (λ (w : ℤ). insert m k w) same_score)) (record {
+  pub AreStored-added : get m k ≡ None → IsTrue (is_score z) → AreStored (insert m k z) fs
+  AreStored-added absent fits = record {
     within = HasScores-insert m k z fits all.within;
     same = same_pairs m es all k copy z fs same put ∙ put_new m k z absent;
-  })
-
-  -- .. and goes again
-  pub AreStored-back : (n : ByteMap ℤ) (gs : List Entry) → get m k ≡ None → n ≡ m → map stored gs ≡ filter (is_other (k, z)) (map stored fs) → AreStored n gs
-  AreStored-back n gs absent is out = subst (λ (x : ByteMap ℤ). AreStored x gs) (sym is) (record {
-    within = all.within;
-    same = out ∙ ap (filter (is_other (k, z))) (same_pairs m es all k copy z fs same put) ∙ put_back m k z absent;
-  })
+  }
 
   -- a member has another score
-  pub AreStored-moved : (old score : ℤ) (n : ByteMap ℤ) (gs : List Entry) → get m k ≡ Some old → int_eq z old ≡ false → IsTrue (is_score z) → n ≡ insert m k score → score ≡ z → map stored gs ≡ filter (is_other (k, old)) (map stored fs) → AreStored n gs
-  AreStored-moved old score n gs there apart fits is same_score out = subst (λ (x : ByteMap ℤ). AreStored x gs) (sym (is ∙ ap (λ (w : ℤ). insert m k w) same_score)) (record {
+  pub AreStored-moved : (old : ℤ) (gs : List Entry) → get m k ≡ Some old → int_eq z old ≡ false → IsTrue (is_score z) → map stored gs ≡ filter (is_other (k, old)) (map stored fs) → AreStored (insert m k z) gs
+  AreStored-moved old gs there apart fits out = record {
     within = HasScores-insert m k z fits all.within;
     same = out ∙ ap (filter (is_other (k, old))) (same_pairs m es all k copy z fs same put) ∙ put_moved m k old z there apart;
-  })
+  }
 
   -- the pair that it had stands there still
   pub pair_there : (old : ℤ) (gs : List Entry) → get m k ≡ Some old → map stored gs ≡ filter (is_other (k, old)) (map stored fs) → gs ≡ fs → ⊥
@@ -82,41 +72,29 @@ module _ (m : ByteMap ℤ) (es : List Entry) (all : AreStored m es) (k copy : Li
       let same_list = ap (times pair_cmp (k, old)) (same_pairs m es all k copy z fs same put) in
       omega arith
 
-module _ (m n : ByteMap ℤ) (es : List Entry) (all : AreStored m es) where
-  -- a member goes that isn't there
-  pub AreStored-absent : (k : List ℕ) → get m k ≡ None → n ≡ remove m k → AreStored n es
-  AreStored-absent k absent is = subst (λ (x : ByteMap ℤ). AreStored x es) (sym (is ∙ remove_absent m k absent)) all
-
-  -- .. and one that is
-  pub AreStored-removed : (k : List ℕ) (z : ℤ) (fs : List Entry) → get m k ≡ Some z → n ≡ remove m k → map stored fs ≡ filter (is_other (k, z)) (map stored es) → AreStored n fs
-  AreStored-removed k z fs there is out = subst (λ (x : ByteMap ℤ). AreStored x fs) (sym is) (record {
+module _ (m : ByteMap ℤ) (es : List Entry) (all : AreStored m es) where
+  -- a member goes that is there
+  pub AreStored-removed : (k : List ℕ) (z : ℤ) (fs : List Entry) → get m k ≡ Some z → map stored fs ≡ filter (is_other (k, z)) (map stored es) → AreStored (remove m k) fs
+  AreStored-removed k z fs there out = record {
     within = HasScores-remove m k all.within;
     same = out ∙ ap (filter (is_other (k, z))) all.same ∙ taken_out m k z there;
-  })
+  }
 
   -- the first pair goes
-  pub AreStored-first : (fs : List Entry) (o : Option Entry) (r : Option (List ℕ × ℤ)) → MatchOption o ((es ≡ []) × (fs ≡ [])) (λ x. es ≡ x ∷ fs) → r ≡ option_map stored o → n ≡ without r m → AreStored n fs
-  AreStored-first fs None r h e is =
-      let nothing : n ≡ m = is ∙ ap (λ (p : Option (List ℕ × ℤ)). without p m) e in
-      subst (λ (x : ByteMap ℤ). AreStored x fs) (sym nothing) (subst (AreStored m) (h.0 ∙ sym h.1) all)
-  AreStored-first fs (Some x) r h e is =
-      let gone : n ≡ remove m (stored x).0 = is ∙ ap (λ (p : Option (List ℕ × ℤ)). without p m) e in
-      subst (λ (y : ByteMap ℤ). AreStored y fs) (sym gone) (record {
-        within = HasScores-remove m (stored x).0 all.within;
-        same = first_taken m (stored x) (map stored fs) (sym all.same ∙ ap (map stored) h);
-      })
+  pub AreStored-first : (fs : List Entry) (o : Option Entry) (r : Option (List ℕ × ℤ)) → MatchOption o ((es ≡ []) × (fs ≡ [])) (λ x. es ≡ x ∷ fs) → r ≡ option_map stored o → AreStored (without r m) fs
+  AreStored-first fs None r h e = subst (λ (p : Option (List ℕ × ℤ)). AreStored (without p m) fs) (sym e) (subst (AreStored m) (h.0 ∙ sym h.1) all)
+  AreStored-first fs (Some x) r h e = subst (λ (p : Option (List ℕ × ℤ)). AreStored (without p m) fs) (sym e) (record {
+    within = HasScores-remove m (stored x).0 all.within;
+    same = first_taken m (stored x) (map stored fs) (sym all.same ∙ ap (map stored) h);
+  })
 
   -- the last pair goes
-  pub AreStored-last : (fs : List Entry) (o : Option Entry) (r : Option (List ℕ × ℤ)) → MatchOption o ((es ≡ []) × (fs ≡ [])) (λ x. es ≡ fs ++ x ∷ []) → r ≡ option_map stored o → n ≡ without r m → AreStored n fs
-  AreStored-last fs None r h e is =
-      let nothing : n ≡ m = is ∙ ap (λ (p : Option (List ℕ × ℤ)). without p m) e in
-      subst (λ (x : ByteMap ℤ). AreStored x fs) (sym nothing) (subst (AreStored m) (h.0 ∙ sym h.1) all)
-  AreStored-last fs (Some x) r h e is =
-      let gone : n ≡ remove m (stored x).0 = is ∙ ap (λ (p : Option (List ℕ × ℤ)). without p m) e in
-      subst (λ (y : ByteMap ℤ). AreStored y fs) (sym gone) (record {
-        within = HasScores-remove m (stored x).0 all.within;
-        same = last_taken m (stored x) (map stored fs) (sym all.same ∙ ap (map stored) h ∙ map-append stored fs (x ∷ []));
-      })
+  pub AreStored-last : (fs : List Entry) (o : Option Entry) (r : Option (List ℕ × ℤ)) → MatchOption o ((es ≡ []) × (fs ≡ [])) (λ x. es ≡ fs ++ x ∷ []) → r ≡ option_map stored o → AreStored (without r m) fs
+  AreStored-last fs None r h e = subst (λ (p : Option (List ℕ × ℤ)). AreStored (without p m) fs) (sym e) (subst (AreStored m) (h.0 ∙ sym h.1) all)
+  AreStored-last fs (Some x) r h e = subst (λ (p : Option (List ℕ × ℤ)). AreStored (without p m) fs) (sym e) (record {
+    within = HasScores-remove m (stored x).0 all.within;
+    same = last_taken m (stored x) (map stored fs) (sym all.same ∙ ap (map stored) h ∙ map-append stored fs (x ∷ []));
+  })
 
 first_of_map : (es : List Entry) → option_map stored (slice_get es 0) ≡ slice_get (map stored es) 0
 first_of_map [] = refl
@@ -148,12 +126,3 @@ count_stored m n es test all is =
 -- how many lie between two places
 pub range_len : (m : ByteMap ℤ) (range : List (List ℕ × ℤ)) (first past : ℕ) → first ≤ past → past ≤ len m → range ≡ slice_range (pairs_of m) first past → past - first ≡ length range
 range_len m range first past ordered within is = sym (ap length is ∙ length-slice_range (pairs_of m) first past ordered (omega (arith, within, length-pairs_of m)))
-
--- what an outcome that is an error leaves
-pub failed : {A E : Type 0} {P : Type 0} (r : Result A E) → is_err r ≡ true → OnErr r P → P
-failed (Ok a) e p = cc
-failed (Err x) e p = p
-
-pub succeeded : {A E : Type 0} {P : Type 0} (r : Result A E) → is_err r ≡ false → OnOk r P → P
-succeeded (Ok a) e p = p
-succeeded (Err x) e p = cc

@@ -50,7 +50,7 @@ keep_true : (a : Bool) → (a && true) ≡ a
 keep_true true = refl
 keep_true false = refl
 
-drop_false : (a : Bool) → (a && false) ≡ false
+pub drop_false : (a : Bool) → (a && false) ≡ false
 drop_false true = refl
 drop_false false = refl
 
@@ -61,7 +61,7 @@ ties q p = sym (tied_then _ _)
 tie_here : (q p : List ℕ × ℤ) → eq_by_cmp bytes_cmp q.0 p.0 ≡ true → tie q p ≡ one (int_eq q.1 p.1)
 tie_here q p e = ap one (ties q p ∙ ap (λ b. int_eq q.1 p.1 && b) e ∙ keep_true (int_eq q.1 p.1))
 
-tie_elsewhere : (q p : List ℕ × ℤ) → eq_by_cmp bytes_cmp q.0 p.0 ≡ false → tie q p ≡ 0
+pub tie_elsewhere : (q p : List ℕ × ℤ) → eq_by_cmp bytes_cmp q.0 p.0 ≡ false → tie q p ≡ 0
 tie_elsewhere q p e = one-false _ (ties q p ∙ ap (λ b. int_eq q.1 p.1 && b) e ∙ drop_false (int_eq q.1 p.1))
 
 tie_itself : (p : List ℕ × ℤ) → tie p p ≡ 1
@@ -77,11 +77,11 @@ find_none x (e ∷ es) h = elim (bytes_cmp x e.0) as (λ r. T (is_lt r && below_
   | Greater ↦ λ t. absurd t
 ] h
 
-left : (a b : Bool) → T (a && b) → T a
+pub left : (a b : Bool) → T (a && b) → T a
 left true b t = tt
 left false b t = t
 
-right : (a b : Bool) → T (a && b) → T b
+pub right : (a b : Bool) → T (a && b) → T b
 right true b t = t
 right false b t = absurd t
 
@@ -244,17 +244,6 @@ put_moved m k old z there apart =
     reversed Less = refl
     reversed Equal = refl
     reversed Greater = refl
-
--- a pair that was put in is taken out again
-pub put_back : (m : ByteMap ℤ) (k : List ℕ) (z : ℤ) → get m k ≡ None → filter (is_other (k, z)) (insert_key pair_cmp (pairs_of m) (k, z)) ≡ pairs_of m
-put_back m k z absent =
-    let p : List ℕ × ℤ = (k, z) in
-    let ls : Pairs = placed pair_cmp p (pairs_of m) in
-    let up : Ascends pair_cmp ls = Ascends-placed pairs_total p (pairs_of m) (pairs_ascend m) in
-    let once : times pair_cmp p ls ≡ 1 = (let both = put_count p p (pairs_of m) in let here = tie_itself p in let none = absent_none m k z absent in omega arith) in
-    ap (filter (is_other p)) (put_placed pairs_total p (pairs_of m) (absent_none m k z absent))
-    ∙ one_order pairs_total exact_pair (filter (is_other p) ls) (pairs_of m) (Ascends-filter pairs_total (is_other p) ls up) (pairs_ascend m) (λ q.
-    let gone = gone_count p q ls once in let put = put_count p q (pairs_of m) in omega arith)
 
 -- the first pair goes, or the last one
 

@@ -1,4 +1,5 @@
 pub mod Bounds
+pub mod Few
 pub mod Leaving
 pub mod Limits
 pub mod Order
@@ -6,3 +7,4 @@ pub mod Pairs
 pub mod Score
 pub mod Stored
 pub mod Texts
+pub mod Walks

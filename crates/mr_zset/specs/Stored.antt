@@ -1,5 +1,6 @@
--- Pairs as a sorted set keeps them, in order and beside a map that says the same.
+-- Pairs as a sorted set keeps them, in order, and the map that they are.
 use Rattle.std.specs.Prelude.{◌≡◌, ℕ, ℤ, List, map}
+use Rattle.std.specs.FinMap.{from_entries}
 use Rattle.mr_map.specs.Bytes.{ByteMap}
 use Rattle.mr_zset.specs.declared.entry.Entry.{Entry}
 use Rattle.mr_zset.specs.declared.query.ShortPair.{ShortPair}
@@ -9,6 +10,10 @@ use Rattle.mr_zset.specs.Score.{HasScores}
 -- a stored pair as a member and its score
 abbrev pub stored : Entry → List ℕ × ℤ
 stored e = (e.member, e.score)
+
+-- what stored pairs say of each member
+abbrev pub scores_of : List Entry → ByteMap ℤ
+scores_of es = from_entries (map stored es)
 
 -- a pair whose member is of few bytes
 abbrev pub short_shown : ShortPair → List ℕ × ℤ

@@ -3,13 +3,17 @@
 #![tactic(auto)]
 
 mod bound;
+mod by_score;
 mod entry;
+mod few_scores;
 mod laws;
 mod leaving;
 mod member_scores;
+mod names;
 mod pair;
 mod query;
 mod ranked;
+mod scan;
 mod sorted_set;
 mod stored;
 

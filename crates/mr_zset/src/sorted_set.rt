@@ -6,7 +6,7 @@ ghost use Rattle.mr_zset.specs.Leaving.{texts, without_all};
 ghost use Rattle.mr_zset.specs.Pairs.{pair_lt, pairs_of, rank_of, range_of, shown, without};
 
 use crate::bound::Bound;
-use crate::member_scores::MemberScores;
+use crate::member_scores::{MemberScores, Walk};
 use crate::pair::Pair;
 use crate::ranked::Ranked;
 use mr_bytes::Bytes;
@@ -14,8 +14,8 @@ use mr_order::Steps;
 use std::alloc::{AllocError, Global};
 use std::marker::Model;
 
-/// A finite map from member to score, beside which the same pairs stand in order, each at its place. The set itself is a
-/// pointer, and the rest comes with the first member, so that a value which may be one of several kinds is no larger for it.
+/// A finite map from member to score, whose pairs stand in order, each at its place. The set itself is a pointer, and the rest comes
+/// with the first member, so that a value which may be one of several kinds is no larger for it.
 pub struct ZSet {
     alloc: Global,
     ranked: Option<Box<Ranked>>,
@@ -62,7 +62,7 @@ impl ZSet {
         ensures small { result < 2 ^ 63 }
     {
         match &self.ranked {
-            Some(ranked) => ranked.len(),
+            Some(ranked) => ranked.scores().len(),
             None => 0,
         }
     }
@@ -143,7 +143,7 @@ impl ZSet {
         ensures steps { (digits : ℕ) → finite.len self.now < 2 ^ digits → steps.new.count ≤ steps.old.count + digits }
     {
         match &self.ranked {
-            Some(ranked) => ranked.place(score, member, steps),
+            Some(ranked) => ranked.scores().place(score, member, steps),
             None => 0,
         }
     }
@@ -153,7 +153,7 @@ impl ZSet {
         ensures { option_map shown result ≡ slice_get (pairs_of self.now) place }
     {
         match &self.ranked {
-            Some(ranked) => ranked.nth(place),
+            Some(ranked) => ranked.scores().nth(place),
             None => None,
         }
     }
@@ -175,7 +175,7 @@ impl ZSet {
         ensures { IfOk result (λ pairs. map shown pairs.items ≡ slice_range (pairs_of self.now) first past) }
     {
         match &self.ranked {
-            Some(ranked) => ranked.between(first, past),
+            Some(ranked) => ranked.scores().between(first, past),
             None => Ok(Vec::new(self.alloc)),
         }
     }
@@ -196,7 +196,7 @@ impl ZSet {
         ensures range { range_of from to self.now ≡ slice_range (pairs_of self.now) result.0 result.1 }
     {
         match &self.ranked {
-            Some(ranked) => ranked.places(from, to),
+            Some(ranked) => ranked.scores().places(from, to),
             None => (0, 0),
         }
     }
@@ -217,7 +217,7 @@ impl ZSet {
     {
         match &self.ranked {
             Some(ranked) => ranked.iter(),
-            None => MemberScores::new(None),
+            None => MemberScores::new(Walk::Nobody),
         }
     }
 

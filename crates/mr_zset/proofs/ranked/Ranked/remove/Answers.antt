@@ -1,15 +1,23 @@
-use Rattle.std.proofs.Common.{◌≡◌, ◌∙◌, sym, map, rules, arith}
-use Rattle.std.specs.Prelude.{filter}
-use Rattle.std.proofs.lemmas.Grind.{common_steps}
-use Rattle.mr_zset.specs.Pairs.{is_other}
-use Rattle.mr_zset.specs.Stored.{stored}
-use Rattle.mr_zset.proofs.StoredChanges.{AreStored-absent, AreStored-removed}
+use Rattle.std.proofs.Common.{◌≡◌, ◌∙◌, None, sym, ap}
+use Rattle.std.specs.FinMap.{get, remove}
+use Rattle.mr_zset.proofs.NameLemmas.{len_removed, named_changed}
+use Rattle.mr_zset.proofs.StoredChanges.{remove_absent}
 use Rattle.mr_zset.proofs.ranked.Ranked.remove.Goals as goal
 
 pub invariant_of-self : goal.invariant_of-self
-invariant_of-self c = AreStored-absent c.self.inside.scores c.remove.new.self c.self.inside.pairs c.self.invariant c.args.member.now (sym c.remove.ensures.before ∙ c.in_err-score.was) c.remove.ensures.removed
+invariant_of-self c =
+    let member = c.args.member.now in
+    let scores = c.self.inside.scores in
+    let absent : get scores member ≡ None = sym c.take_name.ensures.before ∙ c.in_err-score.was in
+    named_changed c.self.inside.names c.take_name.new.names scores scores (λ m. remove m member) c.self.invariant c.take_name.ensures.removed (sym (remove_absent scores member absent)) (len_removed scores member)
+
+pub returns-in_err-score-clause-removed : goal.returns-in_err-score-clause-removed
+returns-in_err-score-clause-removed c =
+    let absent : get c.self.inside.scores c.args.member.now ≡ None = sym c.take_name.ensures.before ∙ c.in_err-score.was in
+    sym (remove_absent c.self.inside.scores c.args.member.now absent) ∙ ap (λ m. remove m c.args.member.now) c.self.view_is
 
 pub invariant_of-self-2 : goal.invariant_of-self-2
 invariant_of-self-2 c =
-    let out : map stored c.take_out.new.pairs ≡ filter (is_other (c.args.member.now, c.in_ok-score.score)) (map stored c.self.inside.pairs) = first_of (search rules, grind (arith, common_steps)) in
-    AreStored-removed c.self.inside.scores c.remove.new.self c.self.inside.pairs c.self.invariant c.args.member.now c.in_ok-score.score c.take_out.new.pairs (sym c.remove.ensures.before ∙ c.in_ok-score.was) c.remove.ensures.removed out
+    let member = c.args.member.now in
+    let scores = c.self.inside.scores in
+    named_changed c.self.inside.names c.take_name.new.names scores c.take.new.self (λ m. remove m member) c.self.invariant c.take_name.ensures.removed c.take.ensures (len_removed scores member)

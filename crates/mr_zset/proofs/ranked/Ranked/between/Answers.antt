@@ -1,6 +1,0 @@
-use Rattle.std.proofs.Common.{arith}
-use Rattle.mr_zset.proofs.StoredChanges.{stored_len}
-use Rattle.mr_zset.proofs.ranked.Ranked.between.Goals as goal
-
-pub pairs_between-requires-clause-within : goal.pairs_between-requires-clause-within
-pairs_between-requires-clause-within c = omega (arith, c.requires.within, stored_len c.self.inside.scores c.args.self.now c.self.inside.pairs c.self.invariant c.self.view_is)
