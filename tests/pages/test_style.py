@@ -18,7 +18,7 @@ EXCUSED = {
         "minired": 125,  # what a program does with what it is handed, of four kinds
         "mr_value": 118,  # lists, hashes, sets and their bytes: kinds of one value
         "mr_node": 115,  # each call on a node, by the one invariant below it
-        "mr_loop": 114,  # a turn, whose steps share one clause
+        "mr_loop": 118,  # a turn, whose steps share one clause
         "mr_entries": 102,  # what each effect makes of each kind of value
     },
     "rows": {
