@@ -1,4 +1,4 @@
-.PHONY: build test check-one test-all test-batched test-by-turns bench bench-serve bench-replicas bench-large bench-words bench-growth instructions instructions-replicas
+.PHONY: build test check-one test-all test-batched test-by-turns bench bench-serve bench-replicas bench-large bench-memory bench-words bench-growth instructions instructions-replicas
 
 # The gate that `make test` runs: test-all, test-batched, or test-by-turns.
 GATE = test-by-turns
@@ -44,6 +44,10 @@ bench-replicas:
 # collections, words, reply and rewriting.
 bench-large:
 	python3 -m bench.large $(RUNS)
+
+# What a key of each kind and size takes of the memory of `serve`, beside redis-server. RUNS="hash list" chooses rows by words of their names.
+bench-memory:
+	python3 -m bench.memory $(RUNS)
 
 # The most memory that `serve` has behind SET and GET of words of 16 to 512 MiB, and what is left, beside redis-server.
 bench-words:

@@ -9,7 +9,7 @@ from tests.support.replies import NIL, NONE, Playing, array, bulk, number
 
 CALLS = 300_000
 # how many members the set at each key tends to
-SIZES = {b"none": 0, b"one": 1, b"few": 20, b"chunk": 250, b"chunks": 1_000, b"many": 5_000}
+SIZES = {b"none": 0, b"one": 1, b"scanned": 10, b"few": 20, b"chunk": 250, b"chunks": 1_000, b"many": 5_000}
 MOST = 2 ** 53
 
 
