@@ -30,7 +30,7 @@ EXCUSED = {
     # of each but `next` a row for each command, effect, name or fault
     "bodies": {
         "mr_groups owning::owned_effect": 168,
-        "mr_arguments name::Name::of_length": 121,
+        "mr_arguments name::Name::starting": 73,
         "mr_arguments name::Name::text": 114,
         "mr_arguments fault::wrong_count": 114,
         "mr_ask reading::read_arguments": 114,

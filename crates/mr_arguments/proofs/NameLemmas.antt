@@ -1,9 +1,10 @@
--- A name is found among those of its length.
-use Rattle.std.proofs.Common.{rules, ℕ, ◌≡◌, List, [], ◌∷◌, length, Bool, true, false, cond, Some, refl, sym, ◌∙◌, ap, subst}
-use Rattle.std.specs.Prelude.{find, filter, ◌==◌, ◌↔◌, IsTrue}
+-- A name is found among those that start as it does.
+use Rattle.std.proofs.Common.{rules, arith, ℕ, ◌≡◌, ◌<◌, slice_index_or, List, [], ◌∷◌, length, Bool, true, false, cond, None, Some, refl, sym, ◌∙◌, ap, subst}
+use Rattle.std.specs.Prelude.{find, filter, ◌↔◌, IsTrue}
 use Rattle.std.specs.Str.{bytes_eq}
 use Rattle.mr_bytes.proofs.Numbers.{same_bytes, equal_bytes}
-use Rattle.mr_arguments.specs.Names.{lowered, text_of, names, is_named, named}
+use Rattle.mr_arguments.specs.Names.{lowered_byte, lowered, text_of, names, is_named, named}
+use Rattle.mr_arguments.specs.Starting.{starts, starts_as}
 use Rattle.mr_arguments.specs.declared.name.Name.{Name}
 use Rattle.mr_arguments.specs.declared.name.Name.TheVariants.{Get}
 
@@ -22,12 +23,21 @@ length-lowered : (word : List ℕ) → length (lowered word) ≡ length word
 length-lowered [] = refl
 length-lowered (c ∷ word) = ap (λ n. n) (search (rules, length-lowered word))
 
-of_its_length : (word : List ℕ) (name : Name) → is_named (lowered word) name ≡ true → (length (text_of name) == length word) ≡ true
-of_its_length word name h = let same : length (text_of name) ≡ length word = ap length (same_bytes _ _ h) ∙ length-lowered word in search rules
+starts-itself : (first : ℕ) (rest : List ℕ) → starts (length (first ∷ rest)) (lowered_byte first) (lowered (first ∷ rest)) ≡ true
+starts-itself first rest = let same : length (lowered (first ∷ rest)) ≡ length (first ∷ rest) = length-lowered (first ∷ rest) in search rules
 
-pub named_by_length : (word : List ℕ) → find (is_named (lowered word)) (filter (λ name. length (text_of name) == length word) names) ≡ named (lowered word)
+of_its_start : (first : ℕ) (rest : List ℕ) (name : Name) → is_named (lowered (first ∷ rest)) name ≡ true → starts_as (length (first ∷ rest)) (lowered_byte first) name ≡ true
+of_its_start first rest name h = subst (λ (t : List ℕ). starts (length (first ∷ rest)) (lowered_byte first) t ≡ true) (sym (same_bytes _ _ h)) (starts-itself first rest)
+
+pub named_by_start : (word : List ℕ) (letter : ℕ) → 0 < length word → letter ≡ lowered_byte (slice_index_or word 0 0) → find (is_named (lowered word)) (filter (starts_as (length word) letter) names) ≡ named (lowered word)
 unfolding named
-named_by_length word = find-filter (is_named (lowered word)) _ names (of_its_length word)
+named_by_start [] letter some same = cc
+named_by_start (first ∷ rest) letter some same = ap (λ l. find (is_named (lowered (first ∷ rest))) (filter (starts_as (length (first ∷ rest)) l) names)) same ∙ find-filter (is_named (lowered (first ∷ rest))) _ names (of_its_start first rest)
+
+pub named_empty : (word : List ℕ) → length word < 1 → None ≡ named (lowered word)
+unfolding named
+named_empty [] h = refl
+named_empty (c ∷ word) h = let no : ⊥ = omega arith in absurd no
 
 -- each name is found, so all of them stand in the list, and no two are the same
 pub named_itself : (name : Name) → named (text_of name) ≡ Some name
@@ -62,10 +72,3 @@ same_lowered word text false low test = elim (bytes_eq text (lowered word)) as (
 
 pub is_same : (name : Name) (word text : List ℕ) (same : Bool) → text ≡ text_of name → (IsTrue same ↔ (lowered word ≡ lowered text)) → same ≡ is_named (lowered word) name
 is_same name word text same e test = same_lowered word text same (ap lowered e ∙ text_lowered name ∙ sym e) test ∙ ap (λ (t : List ℕ). bytes_eq t (lowered word)) e
-
--- a word that begins otherwise isn't the name
-pub is_other : (name : Name) (word text : List ℕ) (alike : Bool) → text ≡ text_of name → (lowered word ≡ text → IsTrue alike) → alike ≡ false → false ≡ is_named (lowered word) name
-is_other name word text alike e begins otherwise = elim (is_named (lowered word) name) as (λ b. is_named (lowered word) name ≡ b → false ≡ b) [
-  | true ↦ λ s. let yes : alike ≡ true = begins (sym (same_bytes _ _ s) ∙ sym e) in cc
-  | false ↦ λ s. refl
-] refl

@@ -1,4 +1,5 @@
 pub mod Names
+pub mod Starting
 pub mod Faults
 pub mod Pairing
 pub mod Parts

@@ -1,6 +1,7 @@
 // The names of the commands.
-ghost use Rattle.std.specs.Prelude.{◌≡◌, ◌++◌, codes, filter, find, ◌==◌, length, IsTrue};
+ghost use Rattle.std.specs.Prelude.{◌≡◌, filter, find};
 ghost use Rattle.mr_arguments.specs.Names.{lowered, text_of, is_named, named, names};
+ghost use Rattle.mr_arguments.specs.Starting.{starts_as};
 
 /// A command, by its name alone.
 #[derive(Clone, Copy, Debug, PartialEq, Eq)]
@@ -132,7 +133,13 @@ impl Name {
     pub fn of(word: &[u8]) -> Option<Name>
         ensures { result ≡ named (lowered word.now) }
     {
-        Name::among(Name::of_length(word.len()), word)
+        match word {
+            [first, ..] => {
+                let alike = Name::starting(word.len(), first.to_ascii_lowercase());
+                Name::among(alike, word)
+            }
+            [] => None,
+        }
     }
 
     /// The first of these names that the word is, if it is one.
@@ -142,129 +149,81 @@ impl Name {
         names.iter().copied().find(|name| name.is(word))
     }
 
-    /// The commands whose names have this many letters.
-    fn of_length(len: usize) -> &'static [Name]
-        ensures { result.now ≡ filter (λ n. length (text_of n) == len) names }
+    /// The commands whose names have this many letters, of which this is the first.
+    fn starting(len: usize, letter: u8) -> &'static [Name]
+        ensures { result.now ≡ filter (starts_as len letter) names }
     {
-        match len {
-            3 => &[Name::Get, Name::Set, Name::Del, Name::Ttl],
-            4 => &[
-                Name::KeyType,
-                Name::MGet,
-                Name::Keys,
-                Name::Scan,
-                Name::MSet,
-                Name::Incr,
-                Name::Decr,
-                Name::PTtl,
-                Name::HSet,
-                Name::HGet,
-                Name::HDel,
-                Name::HLen,
-                Name::LPop,
-                Name::RPop,
-                Name::LLen,
-                Name::LSet,
-                Name::LRem,
-                Name::SAdd,
-                Name::SRem,
-                Name::SPop,
-                Name::ZAdd,
-                Name::ZRem,
-                Name::Ping,
-                Name::Echo,
-                Name::Quit,
-                Name::Info,
-                Name::Role,
-                Name::Exec,
-            ],
-            5 => &[
+        match (len, letter) {
+            (3, b'g') => &[Name::Get],
+            (3, b's') => &[Name::Set],
+            (3, b'd') => &[Name::Del],
+            (3, b't') => &[Name::Ttl],
+            (4, b't') => &[Name::KeyType],
+            (4, b'm') => &[Name::MGet, Name::MSet],
+            (4, b'k') => &[Name::Keys],
+            (4, b's') => &[Name::Scan, Name::SAdd, Name::SRem, Name::SPop],
+            (4, b'i') => &[Name::Incr, Name::Info],
+            (4, b'd') => &[Name::Decr],
+            (4, b'p') => &[Name::PTtl, Name::Ping],
+            (4, b'h') => &[Name::HSet, Name::HGet, Name::HDel, Name::HLen],
+            (4, b'l') => &[Name::LPop, Name::LLen, Name::LSet, Name::LRem],
+            (4, b'r') => &[Name::RPop, Name::Role],
+            (4, b'z') => &[Name::ZAdd, Name::ZRem],
+            (4, b'e') => &[Name::Echo, Name::Exec],
+            (4, b'q') => &[Name::Quit],
+            (5, b's') => &[
                 Name::SetNx,
                 Name::SetEx,
-                Name::HMSet,
-                Name::HMGet,
-                Name::HKeys,
-                Name::HVals,
-                Name::LPush,
-                Name::RPush,
-                Name::LTrim,
-                Name::LMove,
                 Name::SCard,
                 Name::SMove,
                 Name::SDiff,
-                Name::ZCard,
-                Name::ZRank,
-                Name::Psync,
-                Name::Multi,
             ],
-            6 => &[
-                Name::Unlink,
-                Name::Exists,
-                Name::StrLen,
-                Name::GetSet,
-                Name::GetDel,
-                Name::DbSize,
-                Name::MSetNx,
-                Name::Append,
-                Name::IncrBy,
-                Name::DecrBy,
-                Name::Rename,
-                Name::PSetEx,
-                Name::Expire,
-                Name::HSetNx,
-                Name::LPushX,
-                Name::RPushX,
-                Name::LRange,
-                Name::LIndex,
-                Name::SInter,
-                Name::SUnion,
-                Name::ZCount,
-                Name::ZScore,
-                Name::ZRange,
-                Name::Select,
-                Name::Client,
-            ],
-            7 => &[
-                Name::FlushDb,
-                Name::PExpire,
-                Name::Persist,
-                Name::HGetAll,
-                Name::HExists,
-                Name::HStrLen,
-                Name::HIncrBy,
-                Name::LInsert,
-                Name::ZIncrBy,
-                Name::ZMScore,
-                Name::ZPopMin,
-                Name::ZPopMax,
-                Name::Command,
-                Name::SlaveOf,
-                Name::Discard,
-            ],
-            8 => &[
-                Name::GetRange,
-                Name::SetRange,
-                Name::RenameNx,
-                Name::FlushAll,
-                Name::ExpireAt,
-                Name::SMembers,
-                Name::ZRevRank,
-                Name::Shutdown,
-                Name::ReplConf,
-            ],
-            9 => &[
-                Name::PExpireAt,
-                Name::RPopLPush,
-                Name::SIsMember,
-                Name::ZRevRange,
-                Name::ReplicaOf,
-            ],
-            10 => &[Name::ExpireTime, Name::SMIsMember],
-            11 => &[Name::PExpireTime, Name::SRandMember],
-            12 => &[Name::BgRewriteAof],
-            13 => &[Name::ZRangeByScore],
-            15 => &[Name::ZRemRangeByRank],
-            16 => &[Name::ZRevRangeByScore, Name::ZRemRangeByScore],
+            (5, b'h') => &[Name::HMSet, Name::HMGet, Name::HKeys, Name::HVals],
+            (5, b'l') => &[Name::LPush, Name::LTrim, Name::LMove],
+            (5, b'r') => &[Name::RPush],
+            (5, b'z') => &[Name::ZCard, Name::ZRank],
+            (5, b'p') => &[Name::Psync],
+            (5, b'm') => &[Name::Multi],
+            (6, b'u') => &[Name::Unlink],
+            (6, b'e') => &[Name::Exists, Name::Expire],
+            (6, b's') => &[Name::StrLen, Name::SInter, Name::SUnion, Name::Select],
+            (6, b'g') => &[Name::GetSet, Name::GetDel],
+            (6, b'd') => &[Name::DbSize, Name::DecrBy],
+            (6, b'm') => &[Name::MSetNx],
+            (6, b'a') => &[Name::Append],
+            (6, b'i') => &[Name::IncrBy],
+            (6, b'r') => &[Name::Rename, Name::RPushX],
+            (6, b'p') => &[Name::PSetEx],
+            (6, b'h') => &[Name::HSetNx],
+            (6, b'l') => &[Name::LPushX, Name::LRange, Name::LIndex],
+            (6, b'z') => &[Name::ZCount, Name::ZScore, Name::ZRange],
+            (6, b'c') => &[Name::Client],
+            (7, b'f') => &[Name::FlushDb],
+            (7, b'p') => &[Name::PExpire, Name::Persist],
+            (7, b'h') => &[Name::HGetAll, Name::HExists, Name::HStrLen, Name::HIncrBy],
+            (7, b'l') => &[Name::LInsert],
+            (7, b'z') => &[Name::ZIncrBy, Name::ZMScore, Name::ZPopMin, Name::ZPopMax],
+            (7, b'c') => &[Name::Command],
+            (7, b's') => &[Name::SlaveOf],
+            (7, b'd') => &[Name::Discard],
+            (8, b'g') => &[Name::GetRange],
+            (8, b's') => &[Name::SetRange, Name::SMembers, Name::Shutdown],
+            (8, b'r') => &[Name::RenameNx, Name::ReplConf],
+            (8, b'f') => &[Name::FlushAll],
+            (8, b'e') => &[Name::ExpireAt],
+            (8, b'z') => &[Name::ZRevRank],
+            (9, b'p') => &[Name::PExpireAt],
+            (9, b'r') => &[Name::RPopLPush, Name::ReplicaOf],
+            (9, b's') => &[Name::SIsMember],
+            (9, b'z') => &[Name::ZRevRange],
+            (10, b'e') => &[Name::ExpireTime],
+            (10, b's') => &[Name::SMIsMember],
+            (11, b'p') => &[Name::PExpireTime],
+            (11, b's') => &[Name::SRandMember],
+            (12, b'b') => &[Name::BgRewriteAof],
+            (13, b'z') => &[Name::ZRangeByScore],
+            (15, b'z') => &[Name::ZRemRangeByRank],
+            (16, b'z') => &[Name::ZRevRangeByScore, Name::ZRemRangeByScore],
             _ => &[],
         }
     }
@@ -273,11 +232,7 @@ impl Name {
     fn is(self, word: &[u8]) -> bool
         ensures { result ≡ is_named (lowered word.now) self }
     {
-        let text = self.text().as_bytes();
-        if !begins_alike(word, text) {
-            return false;
-        }
-        word.eq_ignore_ascii_case(text)
+        word.eq_ignore_ascii_case(self.text().as_bytes())
     }
 
     /// The name, in lower case.
@@ -398,19 +353,5 @@ impl Name {
             Name::Exec => "exec",
             Name::Discard => "discard",
         }
-    }
-}
-
-/// Whether the first letter of a word is that of a text in lower case, whatever its own case. Most names are told apart by it.
-#[inline]
-fn begins_alike(word: &[u8], text: &[u8]) -> bool
-    ensures { lowered word.now ≡ text.now → IsTrue result }
-{
-    match word {
-        [first, ..] => match text {
-            [letter, ..] => first.to_ascii_lowercase() == *letter,
-            [] => true,
-        },
-        [] => true,
     }
 }
