@@ -1,4 +1,4 @@
-.PHONY: build test check-one test-all test-batched test-by-turns bench bench-serve bench-replicas bench-large bench-memory bench-words bench-growth instructions instructions-replicas
+.PHONY: build test check-one test-all test-batched test-by-turns bench bench-serve bench-replicas bench-large bench-memory bench-words bench-growth instructions instructions-serve instructions-replicas
 
 # The gate that `make test` runs: test-all, test-batched, or test-by-turns.
 GATE = test-by-turns
@@ -60,6 +60,10 @@ bench-growth:
 # The runs of `make bench` by the instructions that they take, under callgrind, which must be installed.
 instructions:
 	python3 -m bench.instructions $(RUNS)
+
+# What a request costs `serve` by instructions, beside redis-server over TCP. RUNS="LPUSH HSET" chooses rows by words of their names.
+instructions-serve:
+	python3 -m bench.counted $(RUNS)
 
 # What a master takes for requests with no replica and with three, and for PSYNC, by instructions.
 instructions-replicas:

@@ -1,8 +1,8 @@
 """What a request costs `./minired serve`, beside redis-server, both asked over TCP by Debian's redis-benchmark: `serving.py [--plot FILE] [WORD..]`.
 
-Each run is made of both programs in turn, with 50 clients that send 1, 16 or 64 requests before they read; told are the medians of ROUNDS
-runs: the server's own processor time a request, the system's part included, and requests a second. The former hardly depends on what else
-the machine does; the latter is bound by the client too. One run is made beside links on which nothing comes. WORDs choose runs by words of their names. --plot draws what a
+Each run is made of both programs in turn, with 50 clients that send 1, 16 or 64 requests before they read; told are, of ROUNDS runs, the
+least of the server's own processor time a request, the system's part included, and the median of requests a second. To the former what else
+the machine and its host do can only add, in single runs as much again; the latter is bound by the client too. One run is made beside links on which nothing comes. WORDs choose runs by words of their names. --plot draws what a
 request costs Redis against minired, as an SVG."""
 
 import contextlib
@@ -15,7 +15,7 @@ import sys
 import tempfile
 import time
 
-from bench.servers import KEYS, LAUNCHER, ROUNDS, has_redis, is_chosen, medians, used_by
+from bench.servers import KEYS, LAUNCHER, ROUNDS, has_redis, is_chosen, least, medians, used_by
 
 # SPOP and ZPOPMIN aren't among them: each run begins with an empty dataset, in which they find nothing
 TESTS = ("ping_mbulk", "set", "get", "incr", "lpush", "lpop", "sadd", "hset", "zadd")
@@ -57,10 +57,16 @@ class Server:
         except OSError:
             return False
 
-    def run(self, test, pipeline, count, keys):
+    def clear(self):
+        """Takes out all that it holds: a run on what an earlier one left puts less into it."""
+        with socket.create_connection(("127.0.0.1", self.port)) as it:
+            it.sendall(b"FLUSHALL\r\n")
+            if it.recv(16) != b"+OK\r\n":
+                raise SystemExit("bench: FLUSHALL is not answered OK")
+
+    def run(self, asked, pipeline, count, keys):
         """Nanoseconds of the server's processor time a request, and requests a second."""
         of_keys = ["-r", str(keys)] if keys > 1 else []
-        asked = WORDS.get(test, ("-t", test))
         words = ["redis-benchmark", "-p", str(self.port), "-c", str(CLIENTS), "-n", str(count), "-P", str(pipeline), *of_keys, "--csv", *asked]
         before = used_by(self.process.pid)
         ran = subprocess.run(words, capture_output=True, text=True, check=True)
@@ -95,12 +101,18 @@ def idle_links(server, count):
         yield
 
 
+def asked(test):
+    """What redis-benchmark is told to ask."""
+    return WORDS.get(test, ("-t", test))
+
+
 def run_beside(server, idle, test, pipeline, count, keys):
-    """What a run on a server takes, beside so many idle links."""
+    """What a run on a server takes whose dataset is empty at first, beside so many idle links."""
+    server.clear()
     with idle_links(server, idle):
         if test in BEFORE:
-            server.run(BEFORE[test], 64, count, keys)
-        return server.run(test, pipeline, count, keys)
+            server.run(asked(BEFORE[test]), 64, count, keys)
+        return server.run(asked(test), pipeline, count, keys)
 
 
 def runs(chosen):
@@ -120,15 +132,15 @@ def runs(chosen):
 
 
 def measure(chosen):
-    """Yields the name of each run, and the medians of minired and of Redis."""
+    """Yields the name of each run, and what minired and Redis take, and how many requests a second they answer."""
     for name, is_kept, test, pipeline, count, keys, idle in runs(chosen):
         with tempfile.TemporaryDirectory() as room:
             both = servers(room, is_kept)
             found = [[run_beside(it, idle, test, pipeline, count, keys) for it in both] for _ in range(ROUNDS)]
             for it in both:
                 it.stop()
-        ours, theirs = (medians([it[at] for it in found]) for at in (0, 1))
-        yield name, ours, theirs
+        ours, theirs = ([it[at] for it in found] for at in (0, 1))
+        yield name, *((least(it)[0], medians(it)[1]) for it in (ours, theirs))
 
 
 def drawn(rows):
