@@ -1,9 +1,22 @@
 """Which keys a pattern finds."""
 
+import random
+import re
 import unittest
 
+from tests.support.program import request, run
 from tests.support.rehearsal import Rehearsing, asked, effect
-from tests.support.replies import NONE, array
+from tests.support.replies import NONE, OK, array
+
+# a key of so many bytes, and a pattern of half as many: every place is tried of some 64 at once where this is to end in time
+LONG = 262_144
+
+
+def drawn_pattern(draw):
+    """A pattern of a few parts for keys of `a` and `b`, and the regular expression that says the same."""
+    parts = [("a", "a"), ("b", "b"), ("?", "."), ("[ab]", "[ab]"), ("[^a]", "[^a]"), ("[b-a]", "[a-b]"), ("\\a", "a"), ("*", ".*")]
+    chosen = [draw.choice(parts) for _ in range(draw.randrange(1, 12))]
+    return "".join(part for part, _ in chosen), "".join(said for _, said in chosen)
 
 
 class Patterns(Rehearsing):
@@ -131,6 +144,35 @@ class Patterns(Rehearsing):
     def test_a_long_key_is_told_at_once(self):
         name = 10_000 * "a"
         self.finds([("a*a*a*a*a*b", name, False), ("a*a*a*a*a*", name, True), ("a*a*a*a*a*b", name + "b", True)])
+
+    def test_places_in_a_long_key(self):
+        parts = [("b", "b", "a"), ("bcd", "bcd", "bce"), ("b?d", "bcd", "bc-"), ("[a-c]z", "bz", "dz"), ("[^x]y", "ay", "xy"), ("\\*q", "*q", "aq")]
+        rows = []
+        for place in (0, 1, 62, 63, 64, 65, 127, 128, 129):
+            front = place * "-"
+            for part, taken, other in parts:
+                for behind in ("", 3 * "-", 70 * "-"):
+                    rows.append((f"*{part}*", front + taken + behind, True))
+                    rows.append((f"*{part}*", front + other + behind, False))
+                rows.append((f"*{part}", front + taken, True))
+                rows.append((f"*{part}", front + taken + "-", False))
+        self.finds(rows)
+
+    def test_drawn_patterns_find_what_regular_expressions_do(self):
+        draw, rows = random.Random(20), []
+        for _ in range(400):
+            pattern, said = drawn_pattern(draw)
+            key = "".join(draw.choice("ab") for _ in range(draw.choice((3, 63, 64, 65, 100, 130))))
+            rows.append((pattern, key, re.fullmatch(said, key) is not None))
+        self.assertEqual({wanted for _, _, wanted in rows}, {False, True})
+        self.finds(rows)
+
+    def test_a_long_pattern_is_told_in_time(self):
+        for form in ("*%sb*", "*%sb", "*?%sb*", "*[a-c]%sb*", "*%s?b*", "*\\%sb*"):
+            pattern = form % (LONG // 2 * "a")
+            with self.subTest(form=form):
+                ran = run(request("SET", LONG * "a", "v") + request("KEYS", pattern), "pipe")
+                self.assertEqual((ran.returncode, ran.stdout), (0, OK + NONE))
 
 
 if __name__ == "__main__":

@@ -40,7 +40,7 @@ pub record Followed (pattern text left later : List ℕ) : Type 0 where
   pub no_longer : length later ≤ length text
 
 -- the parts of a pattern by its first sign
-begins : (left behind : List ℕ) (s : Sign) (star_here : Bool) → signs left ≡ s ∷ signs behind → is_bare star s ≡ star_here
+pub begins : (left behind : List ℕ) (s : Sign) (star_here : Bool) → signs left ≡ s ∷ signs behind → is_bare star s ≡ star_here
     → parts_of left ≡ cond star_here (any_bytes ∷ parts_of behind) (one_byte (set_at s (signs behind)) ∷ parts_past s (signs behind))
 begins left behind s star_here e h = ap parts e ∙ ap (λ x. cond x (any_bytes ∷ parts_of behind) (one_byte (set_at s (signs behind)) ∷ parts_past s (signs behind))) h
 

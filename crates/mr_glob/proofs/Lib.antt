@@ -1,2 +1,4 @@
 pub mod GlobLemmas
 pub mod GlobLaws
+pub mod MaskLemmas
+pub mod PlaceLemmas

@@ -1,3 +1,4 @@
 pub mod Glob
+pub mod GlobPlaces
 pub mod GlobSteps
 pub mod GlobWords

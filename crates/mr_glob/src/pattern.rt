@@ -5,6 +5,8 @@ ghost use Rattle.mr_glob.specs.GlobSteps.{Passes, StopsAt};
 
 mod class;
 mod laws;
+mod mask;
+mod place;
 mod sign;
 
 use class::in_class;
@@ -12,14 +14,15 @@ pub use laws::{
     any_bytes_match, parts_match_in_turn, plain_bytes_match_themselves, ranges_match_either_way,
     taken_bytes_match_themselves,
 };
+use place::next_place;
 use sign::{Sign, next_sign};
 
 /// Whether the pattern matches the whole text.
 ///
 /// `*` stands for any bytes and `?` for one byte. `[..]` stands for one byte of a class of bytes and ranges, whose ends come in
 /// either order, or after `[^` for one that is in none of them; a class that isn't closed ends with the pattern. `\` takes the next
-/// byte as it is, in a class too. It takes no memory, and at most about as many steps as the length of the pattern times that of
-/// the text.
+/// byte as it is, in a class too. It takes no memory, and at most about as many steps as the pattern has bytes for each 64 of the
+/// text.
 #[tactic(auto, unfolding(crate::specs::Glob::glob_matches))]
 pub fn glob(pattern: &[u8], text: &[u8]) -> bool
     ensures { result ≡ glob_matches pattern.now text.now }
@@ -31,7 +34,8 @@ pub fn glob(pattern: &[u8], text: &[u8]) -> bool
     }
 }
 
-/// Whether the pattern matches some rest of the text. Once a `*` is come to, no earlier one need be gone back to.
+/// Whether the pattern matches some rest of the text. Once a `*` is come to, no earlier one need be gone back to; and where the parts
+/// before the next one don't take the bytes, the next place from which on they do is looked for.
 fn matches_rest(pattern: &[u8], text: &[u8]) -> bool
     ensures { result ≡ matches (any_bytes ∷ parts_of pattern.now) text.now }
 {
@@ -49,7 +53,10 @@ fn matches_rest(pattern: &[u8], text: &[u8]) -> bool
                 let Some((_, later)) = from.split_first() else {
                     return false;
                 };
-                from = later;
+                let Some(place) = next_place(left, later) else {
+                    return false;
+                };
+                from = &later[place..];
             }
         }
     }

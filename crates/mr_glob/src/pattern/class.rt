@@ -1,9 +1,12 @@
 // Classes of a pattern.
 ghost use Rattle.std.specs.Prelude.{◌≡◌, ◌≤◌, length, MatchOption};
 ghost use Rattle.mr_glob.specs.Glob.{class_signs, in_class, in_range, in_ranges, parts_behind_class, parts_of, signs};
+ghost use Rattle.mr_glob.specs.GlobPlaces.{Marks};
 ghost use Rattle.mr_glob.specs.GlobSteps.{EndsRange, HasMember, IsNoRange};
 
+use super::mask::between;
 use super::sign::next_sign;
+use std::simd::prelude::*;
 
 /// What comes next in a class.
 #[derive(Clone, Copy)]
@@ -88,5 +91,53 @@ pub(super) fn in_class<'a>(class: &'a [u8], byte: u8) -> (bool, &'a [u8])
             (!holds, behind)
         }
         _ => in_ranges(class, byte),
+    }
+}
+
+/// Which of these bytes are in one of the ranges of an open class, and what follows the class.
+fn ranges_mask<'a>(class: &'a [u8], bytes: u8x64) -> (u64, &'a [u8])
+    ensures marks { Marks (in_ranges (class_signs (signs class.now))) bytes result.0 }
+    ensures behind { parts_of result.1.now ≡ parts_behind_class (signs class.now) }
+    ensures no_longer { length result.1.now ≤ length class.now }
+{
+    let mut left = class;
+    let mut mask = 0;
+    'members: loop {
+        match next_member(left) {
+            Member::Range { first, last, rest } => {
+                mask |= between(bytes, first, last);
+                left = rest;
+            }
+            Member::End(behind) => return (mask, behind),
+        }
+    }
+}
+
+/// Which of these bytes an open class takes, and what follows the class.
+pub(super) fn class_mask<'a>(class: &'a [u8], bytes: u8x64) -> (u64, &'a [u8])
+    ensures marks { Marks (in_class (class_signs (signs class.now))) bytes result.0 }
+    ensures behind { parts_of result.1.now ≡ parts_behind_class (signs class.now) }
+    ensures no_longer { length result.1.now ≤ length class.now }
+{
+    match next_sign(class) {
+        Some((caret, others)) if caret.is_bare(b'^') => {
+            let (mask, behind) = ranges_mask(others, bytes);
+            (!mask, behind)
+        }
+        _ => ranges_mask(class, bytes),
+    }
+}
+
+/// What follows an open class.
+pub(super) fn past_class(class: &[u8]) -> &[u8]
+    ensures behind { parts_of result.now ≡ parts_behind_class (signs class.now) }
+    ensures no_longer { length result.now ≤ length class.now }
+{
+    let mut left = class;
+    'members: loop {
+        match next_member(left) {
+            Member::Range { rest, .. } => left = rest,
+            Member::End(behind) => return behind,
+        }
     }
 }
