@@ -1,5 +1,6 @@
--- A master that applies effects, and a replica that dials, keep the invariant.
-use Rattle.std.proofs.Common.{ℕ, List, [], ◌++◌, ◌≡◌, ◌≢◌, ◌+◌, ◌-◌, None, Some, Bool, true, false, length, refl, sym, ◌∙◌, ap, subst, inl, inr, append_assoc, ◌==◌, ◌&&◌, All}
+-- A master that applies effects, and a replica that opens its end of a link, keep the invariant.
+use Rattle.std.proofs.Common.{ℕ, List, [], ◌++◌, ◌≡◌, ◌≢◌, ◌+◌, ◌-◌, Option, None, Some, Bool, true, false, length, refl, sym, ◌∙◌, ap, subst, inl, inr, append_assoc, ◌==◌, ◌&&◌, All}
+use Rattle.std.specs.Prelude.{is_some}
 use Rattle.std.proofs.lemmas.List.Elements.{All-append}
 use Rattle.std.proofs.lemmas.Bool.Decides.{eqb_tells}
 use Rattle.mr_history.specs.Language.{Language, Laws}
@@ -8,34 +9,26 @@ use Rattle.mr_history.specs.Changes.{SetAt, Same}
 use Rattle.mr_history.specs.History.{Book, History, Front, Agree, Grows, texts, fold}
 use Rattle.mr_history.specs.Node.{Phase, Follow, Node, at_phase, EndsAs}
 use Rattle.mr_history.specs.Node.Phase.{Greet}
-use Rattle.mr_history.specs.World.{Link, World, hears, told, told_if}
+use Rattle.mr_history.specs.World.{Link, World, IsUntouched, is_to, hears, told, told_if}
 use Rattle.mr_history.specs.World.Caller.{Peer}
+use Rattle.mr_history.specs.Rows.{fresh_link}
 use Rattle.mr_history.specs.Invariant.{NodeIsSound, AtTip, Flow, Talk, LinkIsSound, Invariant}
 use Rattle.mr_history.specs.Invariant.Talk.{greeting, greeted, asking, asking_for, refused, answered_full, answered_cont, loading, streaming}
+use Rattle.mr_history.proofs.Moves.{NoneComes}
 use Rattle.mr_history.proofs.Histories.{append_nil, texts_append}
 use Rattle.mr_history.proofs.Fronts.{Keeps, some_is, at_grows, agree_grows, history_is}
-use Rattle.mr_history.proofs.Keeping.{same_keeps, same_good, node_keeps, one_or, id_or, node_change, true_false, none_some}
+use Rattle.mr_history.proofs.Keeping.{same_keeps, same_good, node_keeps, one_or, id_or, node_change, true_false, none_some, origin}
 use Rattle.mr_history.proofs.NodeMoves.{set_good}
 use Rattle.mr_history.proofs.LinkMoves.{loose_keeps}
 use Rattle.mr_history.proofs.Advance.{advanced}
 
-pub dial_keeps : {L : Language} (w v : World L) (n s l : ℕ) (a : Node L) (h : List ℕ) → L.asks None h Handshake → Invariant w → w.node n ≡ Some a → a.master ≡ false → a.follow ≡ None → w.link l ≡ None
-    → SetAt w.node v.node n (at_phase a l (Greet 0))
-    → SetAt w.link v.link l (record {
-      caller = Peer n;
-      to = s;
-      serving = true;
-      streams = false;
-      ask = record { left = h; taken = 0 };
-      tell = record { left = []; taken = 0 };
-      transaction = None;
-    })
-    → Same w.book v.book → Invariant v
-dial_keeps {L} w v n s l a h hh inv e em ef el sn sl sb =
+pub connect_keeps : {L : Language} (w v : World L) (n l : ℕ) (to : Option ℕ) (a : Node L) (h : List ℕ) → L.asks None h Handshake → Invariant w → w.node n ≡ Some a → a.master ≡ false → a.follow ≡ None → w.link l ≡ None
+    → SetAt w.node v.node n (at_phase a l (Greet 0)) → SetAt w.link v.link l (fresh_link (Peer n) to h) → Same w.book v.book → Invariant v
+connect_keeps {L} w v n l to a h hh inv e em ef el sn sl sb =
     node_change u v n b inv_u sn (λ m. refl) keeps (same_good L u.book v.book sb inv_u.good)
     (λ x. ok x)
     (λ x y. true_false a.master y em)
-    (λ j k i post x y z o x' t. true_false a.master (t a (ap (λ z. w.node z) y ∙ e) x' o).0 em)
+    (λ j k i post x y z o x' t. true_false a.master (t n a y e x' o).0 em)
     (λ f x y.
     let i = some_is (record { link = l; phase = Greet 0 }) f y in
     subst (λ z. LinkIsSound v n b z) i (record { link = k; found = sl.0; mine = refl; talk = greeting 0 refl (refl, refl) hh refl }))
@@ -44,7 +37,7 @@ dial_keeps {L} w v n s l a h hh inv e em ef el sn sl sb =
     b = at_phase a l (Greet 0)
 
     k : Link
-    k = record { caller = Peer n; to = s; serving = true; streams = false; ask = record { left = h; taken = 0 }; tell = record { left = []; taken = 0 }; transaction = None }
+    k = fresh_link (Peer n) to h
 
     u : World L
     u = record w { link = v.link }
@@ -55,6 +48,7 @@ dial_keeps {L} w v n s l a h hh inv e em ef el sn sl sb =
     inv_u : Invariant u
     inv_u = loose_keeps w u l k inv
         (λ m c p ec uc fc. let o = inv.links m c (record { link = l; phase = p }) ec uc fc in none_some (w.link l) o.link el o.found)
+        (λ q. record { serving = ap (λ z. is_some z) q; streams = refl; ask = refl; tell = refl; transaction = refl })
         (λ m. refl) sl (λ m. refl)
 
     ok : a.up ≡ true → NodeIsSound v.book b
@@ -112,28 +106,40 @@ and_is x y p q = cc
 pub same_eqb : (n : ℕ) → n == n ≡ true
 same_eqb n = elim (eqb_tells n n) [ inl x ↦ x.0 | inr x ↦ absurd (x.1 refl) ]
 
-pub hears_by : (n : ℕ) (k : Link) → k.to ≡ n → k.serving ≡ true → k.streams ≡ true → hears n k ≡ true
-hears_by n k e o s = and_is (k.to == n) (k.serving && k.streams) (ap (λ z. z == n) e ∙ same_eqb n) (and_is k.serving k.streams o s)
+pub to_yes : (n : ℕ) (o : Option ℕ) → o ≡ Some n → is_to n o ≡ true
+to_yes n o e = ap (λ z. is_to n z) e ∙ same_eqb n
+
+pub to_is : (n : ℕ) (o : Option ℕ) → is_to n o ≡ true → o ≡ Some n
+to_is n None h = absurd (cc)
+to_is n (Some m) h = elim (eqb_tells m n) [ inl x ↦ ap (λ z. Some z) x.1 | inr x ↦ true_false (m == n) h x.0 ]
+
+pub hears_by : (n : ℕ) (k : Link) → k.to ≡ Some n → k.serving ≡ true → k.streams ≡ true → hears n k ≡ true
+hears_by n k e o s = and_is (is_to n k.to) (k.serving && k.streams) (to_yes n k.to e) (and_is k.serving k.streams o s)
 
 pub both_of : (x y : Bool) → x && y ≡ true → (x ≡ true) × (y ≡ true)
 both_of true y e = (refl, e)
 both_of false y e = absurd (cc)
 
-pub hears_is : (n : ℕ) (k : Link) → hears n k ≡ true → (k.to ≡ n) × (k.serving ≡ true) × (k.streams ≡ true)
+pub hears_is : (n : ℕ) (k : Link) → hears n k ≡ true → (k.to ≡ Some n) × (k.serving ≡ true) × (k.streams ≡ true)
 hears_is n k e =
-    let p = both_of (k.to == n) (k.serving && k.streams) e in
+    let p = both_of (is_to n k.to) (k.serving && k.streams) e in
     let q = both_of k.serving k.streams p.1 in
-    (to p.0, q.0, q.1)
+    (to_is n k.to p.0, q.0, q.1)
+
+-- a link that doesn't stream isn't sent what the stream grows by
+pub mute : (n : ℕ) (k : Link) → k.streams ≡ false → hears n k ≡ false
+mute n k e = go (hears n k) refl
   where
-    to : k.to == n ≡ true → k.to ≡ n
-    to h = elim (eqb_tells k.to n) [ inl x ↦ x.1 | inr x ↦ true_false (k.to == n) h x.0 ]
+    go : (b : Bool) → hears n k ≡ b → hears n k ≡ false
+    go true h = true_false k.streams (hears_is n k h).2 e
+    go false h = h
 
 pub extend_keeps : {L : Language} (laws : Laws L) (w v : World L) (n : ℕ) (a : Node L) (es : List L.Effect) (m : L.Dataset) (backlog : List ℕ) (h : History L) → Invariant w
     → w.node n ≡ Some a → a.up ≡ true → a.master ≡ true → All L.IsGood es → fold L es a.held ≡ Some m → EndsAs a.backlog (texts L es) backlog
     → SetAt w.node v.node n (record a { held = m; offset = a.offset + length (texts L es); backlog = backlog })
-    → ((l : ℕ) (k : Link) → w.link l ≡ Some k → v.link l ≡ Some (told_if (hears n k) k (texts L es)))
+    → NoneComes w v → ((l : ℕ) (k : Link) → w.link l ≡ Some k → v.link l ≡ Some (told_if (hears n k) k (texts L es)))
     → w.book a.id ≡ Some h → SetAt w.book v.book a.id (record h { effects = h.effects ++ es }) → Invariant v
-extend_keeps {L} laws w v n a es m backlog h inv ea ua ma gd fx rx sn sl was sb = record {
+extend_keeps {L} laws w v n a es m backlog h inv ea ua ma gd fx rx sn none sl was sb = record {
   good = set_good L laws w.book v.book a.id _ (All-append L.IsGood h.effects es (inv.good a.id h was) gd) sb inv.good;
   nodes = λ j c e u. one_or j n
       (λ q. subst (λ x. NodeIsSound v.book x) (is_b j c q e) self)
@@ -145,6 +151,7 @@ extend_keeps {L} laws w v n a es m backlog h inv ea ua ma gd fx rx sn sl was sb 
   links = λ j c f e u g. one_or j n
       (λ q. none_some a.follow f old.alone_now (ap (λ z. z.follow) (is_b j c q e) ∙ g))
       (λ q. linked j c f (inv.links j c f (before j c q e) u g));
+  waiting = λ l y e q. let o = origin w v (λ j k. told_if (hears n k) k (texts L es)) none sl l y e in untold o.0 y o.2 (hears n o.0) refl (λ x. inv.waiting l o.0 o.1 x) q;
 }
   where
     b : Node L
@@ -211,17 +218,25 @@ extend_keeps {L} laws w v n a es m backlog h inv ea ua ma gd fx rx sn sl was sb 
           second = seconds c oc;
         })
 
+    untold : (k y : Link) → told_if (hears n k) k (texts L es) ≡ y → (b : Bool) → hears n k ≡ b → (k.to ≡ None → IsUntouched k) → y.to ≡ None → IsUntouched y
+    untold k y e true h f q =
+        let z = ap (λ x. told_if x k (texts L es)) (sym h) ∙ e in
+        none_some k.to n (ap (λ x. x.to) z ∙ q) (hears_is n k h).0
+    untold k y e false h f q =
+        let z = ap (λ x. told_if x k (texts L es)) (sym h) ∙ e in
+        subst (λ x. IsUntouched x) z (f (ap (λ x. x.to) z ∙ q))
+
     -- a link that doesn't hear this
     tip_there : (k : Link) (i : L.Id) (post : List L.Effect) → i ≢ a.id → AtTip w k i post → AtTip v k i post
-    tip_there k i post ne t s e u o = one_or k.to n
-        (λ q. absurd (ne (sym (t a (ap (λ z. w.node z) q ∙ ea) ua o).1)))
-        (λ q. t s (before k.to s q e) u o)
+    tip_there k i post ne t m s to e u o = one_or m n
+        (λ q. absurd (ne (sym (t n a (to ∙ ap (λ z. Some z) q) ea ua o).1)))
+        (λ q. t m s to (before m s q e) u o)
 
     tip_here : (k : Link) (i : L.Id) (post more : List L.Effect) → i ≡ a.id → k.streams ≡ true → hears n k ≡ false → AtTip w k i post → AtTip v k i more
-    tip_here k i post more q st mute t s e u o = one_or k.to n
-        (λ x. true_false (hears n k) (hears_by n k x o st) mute)
-        (λ x. let r = t s (before k.to s x e) u o in
-        absurd (x (inv.masters k.to n s a (before k.to s x e) ea u ua r.0 ma (r.1 ∙ q))))
+    tip_here k i post more q st mute t m s to e u o = one_or m n
+        (λ x. true_false (hears n k) (hears_by n k (to ∙ ap (λ z. Some z) x) o st) mute)
+        (λ x. let r = t m s to (before m s x e) u o in
+        absurd (x (inv.masters m n s a (before m s x e) ea u ua r.0 ma (r.1 ∙ q))))
 
     quiet : (k : Link) (i : L.Id) (o : ℕ) (bytes : List ℕ) → hears n k ≡ false → Flow w k i o bytes → Flow v k i o bytes
     quiet k i o bytes mute f = id_or L laws i a.id
@@ -262,7 +277,7 @@ extend_keeps {L} laws w v n a es m backlog h inv ea ua ma gd fx rx sn sl was sb 
     loud : (k : Link) (i : L.Id) (o : ℕ) (bytes : List ℕ) → hears n k ≡ true → Flow w k i o bytes → Flow v (told k (texts L es)) i o (bytes ++ texts L es)
     loud k i o bytes heard f =
         let y = hears_is n k heard in
-        let r = f.tip a (ap (λ z. w.node z) y.0 ∙ ea) ua y.1 in
+        let r = f.tip n a y.0 ea ua y.1 in
         let q : f.mid ++ f.post ++ es ≡ f.mid ++ es ++ [] = ap (λ z. f.mid ++ z ++ es) r.2 ∙ (ap (λ z. z ++ es) (append_nil f.mid) ∙ sym (append_nil (f.mid ++ es))) in
         record {
           start = f.start;
@@ -273,7 +288,7 @@ extend_keeps {L} laws w v n a es m backlog h inv ea ua ma gd fx rx sn sl was sb 
               (front_here L w.book v.book a.id i o es h f.start f.earlier (f.mid ++ f.post) ext (sym r.1) f.front);
           bytes_are = ap (λ z. z ++ texts L es) f.bytes_are ∙ sym (texts_append L f.mid es);
           streams = f.streams;
-          tip = λ s e u o. let i = is_b k.to s y.0 e in (sym (ap (λ z. z.master) i) ∙ ma, sym (ap (λ z. z.id) i) ∙ r.1, refl);
+          tip = λ m s to e u o. let i = is_b m s (some_is m n (sym to ∙ y.0)) e in (sym (ap (λ z. z.master) i) ∙ ma, sym (ap (λ z. z.id) i) ∙ r.1, refl);
         }
 
     loudly : (k : Link) (c : Node L) (p : Phase L.Id) → hears n k ≡ true → Talk w c p k → Talk v c p (told k (texts L es))

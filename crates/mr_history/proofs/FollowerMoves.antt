@@ -9,7 +9,7 @@ use Rattle.mr_history.specs.Changes.{SetAt, Same}
 use Rattle.mr_history.specs.History.{Book, IsAt, Front, Agree, texts, fold}
 use Rattle.mr_history.specs.Node.{Phase, Follow, Node, at_phase, continued, EndsAs}
 use Rattle.mr_history.specs.Node.Phase.{Greet, Asked, Loading, Stream}
-use Rattle.mr_history.specs.World.{Link, World, IsPlain}
+use Rattle.mr_history.specs.World.{Link, World, IsPlain, no_bytes}
 use Rattle.mr_history.specs.Invariant.{IsGoodBook, NodeIsSound, AtTip, Flow, Talk, Invariant}
 use Rattle.mr_history.specs.Invariant.Talk.{greeting, greeted, asking, asking_for, refused, answered_full, answered_cont, loading, streaming}
 use Rattle.mr_history.proofs.Moves.{Follows, heard}
@@ -21,6 +21,10 @@ use Rattle.mr_history.proofs.Advance.{advanced, front_on, texts_one, fold_one}
 nothing : {P : Type 0} (t rest : List ℕ) → t ≢ [] → t ++ rest ≡ [] → P
 nothing [] rest f g = absurd (f refl)
 nothing (x ∷ t) rest f g = absurd (cc)
+
+-- where something can be read something was said
+pub spoken : (t rest : List ℕ) (k : Link) → t ≢ [] → k.tell.left ≡ t ++ rest → k.tell ≢ no_bytes
+spoken t rest k some e none = nothing t rest some (sym e ∙ ap (λ z. z.left) none)
 
 -- no line is read where none is left
 no_line : {P : Type 0} (L : Language) (laws : Laws L) (t rest : List ℕ) (a : Line L.Id) (xs : List ℕ) → L.says t a → xs ≡ t ++ rest → xs ≡ [] → P
@@ -51,7 +55,7 @@ next_line : {L : Language} (laws : Laws L) (w v : World L) (n l j : ℕ) (said :
     → SetAt w.node v.node n (at_phase a l q) → SetAt w.link v.link l (heard k rest bytes) → Same w.book v.book
     → (IsPlain k → (heard k rest bytes).ask.left ≡ bytes → rest ≡ [] → Talk v (at_phase a l q) q (heard k rest bytes)) → Invariant v
 next_line {L} laws w v n l j said a q k t rest bytes inv fo say el sn sl sb then =
-    follower_change w v n l a (at_phase a l q) (Greet j) q k (heard k rest bytes) inv fo sn sl sb refl refl refl refl
+    follower_change w v n l a (at_phase a l q) (Greet j) q k (heard k rest bytes) inv fo sn sl sb refl refl refl refl refl (spoken t rest k (laws.says_some t said say) el)
     (λ o y. replica_ok w.book a _ _ fo.follow o)
     (λ o tips y. go y)
   where
@@ -85,7 +89,7 @@ ask_on_keeps {L} laws w v n l j said a k t rest h hh inv fo say el sn sl sb =
 pub take_full_keeps : {L : Language} (laws : Laws L) (w v : World L) (n l : ℕ) (i : L.Id) (o : ℕ) (a : Node L) (k : Link) (t rest : List ℕ) → Invariant w → Follows w n a l Asked k → L.says t (FullResync i o) → k.tell.left ≡ t ++ rest
     → SetAt w.node v.node n (at_phase a l (Loading i o)) → SetAt w.link v.link l (heard k rest []) → Same w.book v.book → Invariant v
 take_full_keeps {L} laws w v n l i o a k t rest inv fo say el sn sl sb =
-    follower_change w v n l a (at_phase a l (Loading i o)) Asked (Loading i o) k (heard k rest []) inv fo sn sl sb refl refl refl refl
+    follower_change w v n l a (at_phase a l (Loading i o)) Asked (Loading i o) k (heard k rest []) inv fo sn sl sb refl refl refl refl refl (spoken t rest k (laws.says_some t (FullResync i o) say) el)
     (λ o y. replica_ok w.book a _ _ fo.follow o)
     (λ o tips y. go (tips k (heard k rest []) refl refl) y)
   where
@@ -113,7 +117,7 @@ pub load_keeps : {L : Language} (laws : Laws L) (w v : World L) (n l : ℕ) (i :
     → SetAt w.node v.node n (at_phase (record a { id = i; offset = o; second = None; backlog = []; held = m; offers = true }) l Stream)
     → SetAt w.link v.link l (heard k rest []) → Same w.book v.book → Invariant v
 load_keeps {L} laws w v n l i o a m k t rest inv fo ld el sn sl sb =
-    follower_change w v n l a b (Loading i o) Stream k (heard k rest []) inv fo sn sl sb refl refl refl refl
+    follower_change w v n l a b (Loading i o) Stream k (heard k rest []) inv fo sn sl sb refl refl refl refl refl (spoken t rest k (laws.loads_some t m ld) el)
     (λ ok y. loaded ok (read y).0)
     (λ ok tips y. let r = read y in streaming rest refl refl (flow_keeps w v k (heard k rest []) i o rest keeps refl (tips k (heard k rest []) refl refl) r.1))
   where
@@ -184,7 +188,7 @@ pub take_cont_keeps : {L : Language} (laws : Laws L) (w v : World L) (n l : ℕ)
     → SetAt w.node v.node n (at_phase (continued a i) l Stream) → SetAt w.link v.link l (heard k rest []) → Same w.book v.book → Invariant v
 take_cont_keeps {L} laws w v n l i a k t rest inv fo say el sn sl sb =
     follower_change w v n l a b Asked Stream k (heard k rest []) inv fo sn sl sb
-    (chosen (λ x. x.master) (L.same a.id i) a _ a.master refl refl) (chosen (λ x. x.up) (L.same a.id i) a _ a.up refl refl) refl refl
+    (chosen (λ x. x.master) (L.same a.id i) a _ a.master refl refl) (chosen (λ x. x.up) (L.same a.id i) a _ a.up refl refl) refl refl refl (spoken t rest k (laws.says_some t (Continue i) say) el)
     (λ ok y. gone_on ok (read y).0)
     (λ ok tips y. let r = read y in streaming rest refl refl
     (subst (λ x. Flow v (heard k rest []) x b.offset rest) (sym ei) (subst (λ x. Flow v (heard k rest []) i x rest) (sym eo)
@@ -286,7 +290,7 @@ pub follow_keeps : {L : Language} (laws : Laws L) (w v : World L) (n l : ℕ) (a
     → SetAt w.node v.node n (record a { held = m; offset = a.offset + length (L.text e); backlog = backlog })
     → SetAt w.link v.link l (heard k rest []) → Same w.book v.book → Invariant v
 follow_keeps {L} laws w v n l a e m k rest backlog inv fo el ge ea er sn sl sb =
-    follower_change w v n l a b Stream Stream k (heard k rest []) inv fo sn sl sb refl refl fo.follow refl
+    follower_change w v n l a b Stream Stream k (heard k rest []) inv fo sn sl sb refl refl fo.follow refl refl (spoken (L.text e) rest k (laws.text_some e) el)
     (λ ok y. applied ok (read y))
     (λ ok tips y. told (tips k (heard k rest []) refl refl) (read y))
   where

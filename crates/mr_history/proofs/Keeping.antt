@@ -6,11 +6,11 @@ use Rattle.mr_history.specs.Language.Request.{Handshake, Psync}
 use Rattle.mr_history.specs.Changes.{SetAt, Same}
 use Rattle.mr_history.specs.History.{Book, Agree}
 use Rattle.mr_history.specs.Node.{Phase, Follow, Node}
-use Rattle.mr_history.specs.World.{Link, World}
+use Rattle.mr_history.specs.World.{Link, World, IsUntouched, dropped, shut, no_bytes}
 use Rattle.mr_history.specs.World.Caller.{Peer}
 use Rattle.mr_history.specs.Invariant.{IsGoodBook, NodeIsSound, AtTip, Flow, Talk, LinkIsSound, Invariant}
 use Rattle.mr_history.specs.Invariant.Talk.{greeting, greeted, asking, asking_for, refused, answered_full, answered_cont, loading, streaming}
-use Rattle.mr_history.proofs.Moves.{Follows}
+use Rattle.mr_history.proofs.Moves.{Follows, WaitsUntouched, NoneComes}
 use Rattle.mr_history.proofs.Fronts.{Keeps, some_is, at_grows, agree_grows, front_keeps, keeps_grows}
 
 pub same_keeps : (L : Language) (b c : Book L) → Same b c → Keeps L b c
@@ -83,11 +83,44 @@ same_tells L laws i j = go (L.same i j) refl
 pub id_or : {P : Type 0} (L : Language) (laws : Laws L) (i j : L.Id) → (i ≡ j → P) → (i ≢ j → P) → P
 id_or L laws i j f g = elim (same_tells L laws i j) [ inl x ↦ f x.1 | inr x ↦ g x.1 ]
 
+pub true_false : {P : Type 0} (b : Bool) → b ≡ true → b ≡ false → P
+true_false b x y = absurd (cc)
+
+pub none_some : {A P : Type 0} (o : Option A) (x : A) → o ≡ None → o ≡ Some x → P
+none_some o x p q = absurd (cc)
+
+-- what a link was before each became another
+pub origin : {L : Language} (w v : World L) (g : ℕ → Link → Link) → NoneComes w v → ((l : ℕ) (k : Link) → w.link l ≡ Some k → v.link l ≡ Some (g l k))
+    → (l : ℕ) (y : Link) → v.link l ≡ Some y → (k : Link) × (w.link l ≡ Some k) × (g l k ≡ y)
+origin w v g none some l y e = go (w.link l) refl
+  where
+    go : (o : Option Link) → w.link l ≡ o → (k : Link) × (w.link l ≡ Some k) × (g l k ≡ y)
+    go None q = none_some (v.link l) y (none l q) e
+    go (Some k) q = (k, q, some_is (g l k) y (sym (some l k q) ∙ e))
+
+pub dropped_untouched : (b : Bool) (k : Link) → IsUntouched k → IsUntouched (dropped b k)
+dropped_untouched true k h = record { serving = h.serving; streams = h.streams; ask = h.ask; tell = h.tell; transaction = refl }
+dropped_untouched false k h = record { serving = h.serving; streams = h.streams; ask = h.ask; tell = h.tell; transaction = h.transaction }
+
+pub shut_untouched : (b : Bool) (k : Link) → IsUntouched k → IsUntouched (shut b k)
+shut_untouched true k h = record { serving = refl; streams = h.streams; ask = h.ask; tell = h.tell; transaction = refl }
+shut_untouched false k h = record { serving = h.serving; streams = h.streams; ask = h.ask; tell = h.tell; transaction = h.transaction }
+
+-- more is sent to who may accept the link
+pub asked_untouched : (k : Link) (bytes : List ℕ) → IsUntouched k → IsUntouched (record k { ask = record k.ask { left = bytes } })
+asked_untouched k bytes h = record { serving = h.serving; streams = h.streams; ask = h.ask; tell = h.tell; transaction = h.transaction }
+
+-- the links that wait, after a change at one link
+waiting_after : {L : Language} (w v : World L) (l : ℕ) (k' : Link) → Invariant w → SetAt w.link v.link l k' → WaitsUntouched k' → (j : ℕ) (y : Link) → v.link j ≡ Some y → WaitsUntouched y
+waiting_after w v l k' inv sl here j y e q = one_or j l
+    (λ h. let i = some_is k' y (sym sl.0 ∙ (ap (λ z. v.link z) (sym h) ∙ e)) in subst (λ z. IsUntouched z) i (here (ap (λ z. z.to) i ∙ q)))
+    (λ h. inv.waiting j y (sym (sl.1 j h) ∙ e) q)
+
 -- A change at node n alone.
 pub node_change : {L : Language} (w v : World L) (n : ℕ) (b : Node L) → Invariant w → SetAt w.node v.node n b → Same w.link v.link → Keeps L w.book v.book → IsGoodBook L v.book
     → (b.up ≡ true → NodeIsSound v.book b)
     → (b.up ≡ true → b.master ≡ true → (m : ℕ) (c : Node L) → m ≢ n → w.node m ≡ Some c → c.up ≡ true → c.master ≡ true → b.id ≢ c.id)
-    → ((l : ℕ) (k : Link) (i : L.Id) (post : List L.Effect) → w.link l ≡ Some k → k.to ≡ n → k.streams ≡ true → k.serving ≡ true → b.up ≡ true
+    → ((l : ℕ) (k : Link) (i : L.Id) (post : List L.Effect) → w.link l ≡ Some k → k.to ≡ Some n → k.streams ≡ true → k.serving ≡ true → b.up ≡ true
     → AtTip w k i post → (b.master ≡ true) × (b.id ≡ i) × (post ≡ []))
     → ((f : Follow L.Id) → b.up ≡ true → b.follow ≡ Some f → LinkIsSound v n b f)
     → Invariant v
@@ -105,6 +138,7 @@ node_change {L} w v n b inv sn sl keeps good self rank tips mine = record {
   links = λ m a f e u g. one_or m n
       (λ q. let i = is_b m a q e in subst (λ x. LinkIsSound v m x f) i (subst (λ x. LinkIsSound v x b f) (sym q) (mine f (ap (λ x. x.up) i ∙ u) (ap (λ x. x.follow) i ∙ g))))
       (λ q. kept m a f (inv.links m a f (was m a q e) u g));
+  waiting = λ l k e q. inv.waiting l k (sym (sl l) ∙ e) q;
 }
   where
     is_b : (m : ℕ) (a : Node L) → m ≡ n → v.node m ≡ Some a → b ≡ a
@@ -120,10 +154,10 @@ node_change {L} w v n b inv sn sl keeps good self rank tips mine = record {
     was m a q e = sym (sn.1 m q) ∙ e
 
     tip : (l : ℕ) (k : Link) → w.link l ≡ Some k → k.streams ≡ true → (i : L.Id) (post : List L.Effect) → AtTip w k i post → AtTip v k i post
-    tip l k e s i post t x ex u o = one_or k.to n
-        (λ q. let j = is_b k.to x q ex in let r = tips l k i post e q s o (ap (λ z. z.up) j ∙ u) t in
+    tip l k e s i post t m x to ex u o = one_or m n
+        (λ q. let j = is_b m x q ex in let r = tips l k i post e (to ∙ ap (λ z. Some z) q) s o (ap (λ z. z.up) j ∙ u) t in
         (sym (ap (λ z. z.master) j) ∙ r.0, sym (ap (λ z. z.id) j) ∙ r.1, r.2))
-        (λ q. t x (was k.to x q ex) u o)
+        (λ q. t m x to (was m x q ex) u o)
 
     tip_if : (l : ℕ) (k : Link) (a : Node L) (p : Phase L.Id) → w.link l ≡ Some k → Talk w a p k → Talk v a p k
     tip_if l k a p e (greeting n x s y z) = greeting n x s y z
@@ -142,22 +176,17 @@ node_change {L} w v n b inv sn sl keeps good self rank tips mine = record {
 peer_is : (m n : ℕ) → Peer m ≡ Peer n → m ≡ n
 peer_is m n e = cc
 
-pub true_false : {P : Type 0} (b : Bool) → b ≡ true → b ≡ false → P
-true_false b x y = absurd (cc)
-
-pub none_some : {A P : Type 0} (o : Option A) (x : A) → o ≡ None → o ≡ Some x → P
-none_some o x p q = absurd (cc)
-
 -- A change at link l alone.
-pub link_change : {L : Language} (w v : World L) (l : ℕ) (k' : Link) → Invariant w → Same w.node v.node → SetAt w.link v.link l k' → Same w.book v.book
+pub link_change : {L : Language} (w v : World L) (l : ℕ) (k' : Link) → Invariant w → Same w.node v.node → SetAt w.link v.link l k' → Same w.book v.book → WaitsUntouched k'
     → ((m : ℕ) (c : Node L) (p : Phase L.Id) (k : Link) → w.node m ≡ Some c → c.up ≡ true → c.follow ≡ Some (record { link = l; phase = p })
     → w.link l ≡ Some k → k.caller ≡ Peer m → Talk w c p k → (k'.caller ≡ Peer m) × Talk v c p k')
     → Invariant v
-link_change {L} w v l k' inv sn sl sb at = record {
+link_change {L} w v l k' inv sn sl sb wait at = record {
   good = same_good L w.book v.book sb inv.good;
   nodes = λ m a e u. node_keeps w.book v.book a keeps (inv.nodes m a (was m a e) u);
   masters = λ m m' a c e e' u u' x x' y. inv.masters m m' a c (was m a e) (was m' c e') u u' x x' y;
   links = λ m a f e u g. one_or f.link l (λ q. here m a f e u g q) (λ q. there m a f e u g q);
+  waiting = waiting_after w v l k' inv sl wait;
 }
   where
     keeps : Keeps L w.book v.book
@@ -167,7 +196,7 @@ link_change {L} w v l k' inv sn sl sb at = record {
     was m a e = sym (sn m) ∙ e
 
     tip : (k : Link) → (i : L.Id) (post : List L.Effect) → AtTip w k i post → AtTip v k i post
-    tip k i post t x ex u o = t x (was k.to x ex) u o
+    tip k i post t m x to ex u o = t m x to (was m x ex) u o
 
     here : (m : ℕ) (a : Node L) (f : Follow L.Id) → v.node m ≡ Some a → a.up ≡ true → a.follow ≡ Some f → f.link ≡ l → LinkIsSound v m a f
     here m a f e u g q =
@@ -183,12 +212,12 @@ link_change {L} w v l k' inv sn sl sb at = record {
 -- A change at a replica and at the link that it follows.
 pub follower_change : {L : Language} (w v : World L) (n l : ℕ) (a b : Node L) (p q : Phase L.Id) (k k' : Link) → Invariant w → Follows w n a l p k
     → SetAt w.node v.node n b → SetAt w.link v.link l k' → Same w.book v.book
-    → b.master ≡ a.master → b.up ≡ a.up → b.follow ≡ Some (record { link = l; phase = q }) → k'.caller ≡ k.caller
+    → b.master ≡ a.master → b.up ≡ a.up → b.follow ≡ Some (record { link = l; phase = q }) → k'.caller ≡ k.caller → k'.to ≡ k.to → k.tell ≢ no_bytes
     → (NodeIsSound w.book a → Talk w a p k → NodeIsSound w.book b)
     → (NodeIsSound w.book a → ((x y : Link) → y.to ≡ x.to → y.serving ≡ x.serving → (i : L.Id) (post : List L.Effect) → AtTip w x i post → AtTip v y i post)
     → Talk w a p k → Talk v b q k')
     → Invariant v
-follower_change {L} w v n l a b p q k k' inv fo sn sl sb em eu ef efrom self talk = record {
+follower_change {L} w v n l a b p q k k' inv fo sn sl sb em eu ef efrom eto said self talk = record {
   good = same_good L w.book v.book sb inv.good;
   nodes = λ m c e u. one_or m n
       (λ h. subst (λ x. NodeIsSound v.book x) (is_b m c h e) (node_keeps w.book v.book b keeps (self ok its.1)))
@@ -201,6 +230,7 @@ follower_change {L} w v n l a b p q k k' inv fo sn sl sb em eu ef efrom self tal
   links = λ m c f e u g. one_or m n
       (λ h. mine m c f h e g)
       (λ h. theirs m c f h e u g);
+  waiting = waiting_after w v l k' inv sl (λ q. absurd (said (inv.waiting l k fo.link (sym eto ∙ q)).tell));
 }
   where
     keeps : Keeps L w.book v.book
@@ -225,9 +255,9 @@ follower_change {L} w v n l a b p q k k' inv fo sn sl sb em eu ef efrom self tal
     was m c h e = sym (sn.1 m h) ∙ e
 
     tip : (x y : Link) → y.to ≡ x.to → y.serving ≡ x.serving → (i : L.Id) (post : List L.Effect) → AtTip w x i post → AtTip v y i post
-    tip x y et es i post t s ex u o = one_or x.to n
-        (λ h. replica (t a (ap (λ z. w.node z) h ∙ fo.node) fo.up (sym es ∙ o)).0)
-        (λ h. t s (was x.to s h (ap (λ z. v.node z) (sym et) ∙ ex)) u (sym es ∙ o))
+    tip x y et es i post t m s to ex u o = one_or m n
+        (λ h. replica (t n a (sym et ∙ (to ∙ ap (λ z. Some z) h)) fo.node fo.up (sym es ∙ o)).0)
+        (λ h. t m s (sym et ∙ to) (was m s h ex) u (sym es ∙ o))
 
     follow_is : (m : ℕ) (c : Node L) (f : Follow L.Id) → m ≡ n → v.node m ≡ Some c → c.follow ≡ Some f → record { link = l; phase = q } ≡ f
     follow_is m c f h e g = some_is (record { link = l; phase = q }) f (sym ef ∙ (ap (λ z. z.follow) (is_b m c h e) ∙ g))

@@ -7,8 +7,9 @@ use Rattle.mr_history.specs.Changes.{SetAt, Same}
 use Rattle.mr_history.specs.History.{History, Front, texts, fold}
 use Rattle.mr_history.specs.Node.{Phase, Node, Continues, tail, continued, at_phase, EndsAs}
 use Rattle.mr_history.specs.Node.Phase.{Greet, Asked, Loading, Stream}
-use Rattle.mr_history.specs.World.{Link, World, dropped, hears, shut, told_if}
+use Rattle.mr_history.specs.World.{Link, World, IsUntouched, dropped, hears, accepted, shut, told_if}
 use Rattle.mr_history.specs.World.Caller.{Peer}
+use Rattle.mr_history.specs.Rows.{fresh_link}
 
 -- the server used one request, of which rest is left, and says bytes
 abbrev pub used : Link → List ℕ → List ℕ → Link
@@ -28,9 +29,19 @@ pub record Follows {L : Language} (w : World L) (n : ℕ) (a : Node L) (l : ℕ)
 -- a node's end of an open link that it serves
 pub record Serves {L : Language} (w : World L) (s : Node L) (l : ℕ) (k : Link) : Type 0 where
   pub link : w.link l ≡ Some k
-  pub node : w.node k.to ≡ Some s
+  pub n : ℕ
+  pub to : k.to ≡ Some n
+  pub node : w.node n ≡ Some s
   pub up : s.up ≡ true
   pub serving : k.serving ≡ true
+
+-- where the link waits nothing was done on it
+abbrev pub WaitsUntouched : Link → Type 0
+WaitsUntouched k = k.to ≡ None → IsUntouched k
+
+-- no link comes
+abbrev pub NoneComes : {L : Language} → World L → World L → Type 0
+NoneComes w v = (l : ℕ) → w.link l ≡ None → v.link l ≡ None
 
 pub data Move {L : Language} (w v : World L) : Type 0 where
   -- nothing changes
@@ -40,24 +51,24 @@ pub data Move {L : Language} (w v : World L) : Type 0 where
   -- the replica's end of its link closes
   leave : (n : ℕ) (a : Node L) (x : Bool) (h : List ℕ) → w.node n ≡ Some a → SetAt w.node v.node n (record a { follow = None; offers = x; upstream = h }) → Same w.link v.link → Same w.book v.book → Move w v
   -- the server's end of some links closes
-  close : (f : ℕ → Link → Bool) → Same w.node v.node → ((l : ℕ) (k : Link) → w.link l ≡ Some k → v.link l ≡ Some (shut (f l k) k)) → Same w.book v.book → Move w v
+  close : (f : ℕ → Link → Bool) → Same w.node v.node → NoneComes w v → ((l : ℕ) (k : Link) → w.link l ≡ Some k → v.link l ≡ Some (shut (f l k) k)) → Same w.book v.book → Move w v
   -- the server's end of some links drops what is open
-  drop_open : (f : ℕ → Link → Bool) → Same w.node v.node → ((l : ℕ) (k : Link) → w.link l ≡ Some k → v.link l ≡ Some (dropped (f l k) k)) → Same w.book v.book → Move w v
+  drop_open : (f : ℕ → Link → Bool) → Same w.node v.node → NoneComes w v → ((l : ℕ) (k : Link) → w.link l ≡ Some k → v.link l ≡ Some (dropped (f l k) k)) → Same w.book v.book → Move w v
   -- bytes are delivered
-  carry : (l x y : ℕ) (k : Link) → w.link l ≡ Some k → Same w.node v.node
+  carry : (l x y : ℕ) (k : Link) → w.link l ≡ Some k → WaitsUntouched (record k { ask = record k.ask { taken = x }; tell = record k.tell { taken = y } }) → Same w.node v.node
       → SetAt w.link v.link l (record k { ask = record k.ask { taken = x }; tell = record k.tell { taken = y } }) → Same w.book v.book → Move w v
   -- anything on a link that no running node follows, as a client's
   loose : (l : ℕ) (k : Link) → ((n : ℕ) (a : Node L) (p : Phase L.Id) → w.node n ≡ Some a → a.up ≡ true → a.follow ≡ Some (record { link = l; phase = p }) → ⊥)
-      → Same w.node v.node → SetAt w.link v.link l k → Same w.book v.book → Move w v
+      → WaitsUntouched k → Same w.node v.node → SetAt w.link v.link l k → Same w.book v.book → Move w v
   -- a node starts, or starts anew, under a new id
   draw : (n : ℕ) (b : Node L) → w.book b.id ≡ None → b.offset ≡ 0 → b.second ≡ None → b.backlog ≡ [] → b.follow ≡ None
-      → ((l : ℕ) (k : Link) → w.link l ≡ Some k → k.to ≡ n → k.serving ≡ false)
+      → ((l : ℕ) (k : Link) → w.link l ≡ Some k → k.to ≡ Some n → k.serving ≡ false)
       → SetAt w.node v.node n b → Same w.link v.link → SetAt w.book v.book b.id (record { start = b.held; effects = [] }) → Move w v
   -- a master applies effects
   extend : (n : ℕ) (a : Node L) (es : List L.Effect) (m : L.Dataset) (backlog : List ℕ) (h : History L)
       → w.node n ≡ Some a → a.up ≡ true → a.master ≡ true → All L.IsGood es → fold L es a.held ≡ Some m → EndsAs a.backlog (texts L es) backlog
       → SetAt w.node v.node n (record a { held = m; offset = a.offset + length (texts L es); backlog = backlog })
-      → ((l : ℕ) (k : Link) → w.link l ≡ Some k → v.link l ≡ Some (told_if (hears n k) k (texts L es)))
+      → NoneComes w v → ((l : ℕ) (k : Link) → w.link l ≡ Some k → v.link l ≡ Some (told_if (hears n k) k (texts L es)))
       → w.book a.id ≡ Some h → SetAt w.book v.book a.id (record h { effects = h.effects ++ es }) → Move w v
   -- REPLICAOF NO ONE on a replica that has left its master
   promote : (n : ℕ) (i : L.Id) (a : Node L) (start : L.Dataset) (earlier later : List L.Effect)
@@ -67,20 +78,13 @@ pub data Move {L : Language} (w v : World L) : Type 0 where
       → Front L w.book a.id a.offset start earlier later → SetAt w.book v.book i (record { start = start; effects = earlier }) → Move w v
   -- REPLICAOF on a master that has closed its replicas' links
   demote : (n : ℕ) (a : Node L) (h : List ℕ) → w.node n ≡ Some a → a.follow ≡ None
-      → ((l : ℕ) (k : Link) → w.link l ≡ Some k → k.to ≡ n → k.serving ≡ true → k.streams ≡ false)
+      → ((l : ℕ) (k : Link) → w.link l ≡ Some k → k.to ≡ Some n → k.serving ≡ true → k.streams ≡ false)
       → SetAt w.node v.node n (record a { master = false; offers = true; upstream = h }) → Same w.link v.link → Same w.book v.book → Move w v
-  dial : (n s l : ℕ) (a : Node L) (h : List ℕ) → L.asks None h Handshake → w.node n ≡ Some a → a.master ≡ false → a.follow ≡ None → w.link l ≡ None
-      → SetAt w.node v.node n (at_phase a l (Greet 0))
-      → SetAt w.link v.link l (record {
-        caller = Peer n;
-        to = s;
-        serving = true;
-        streams = false;
-        ask = record { left = h; taken = 0 };
-        tell = record { left = []; taken = 0 };
-        transaction = None;
-      })
-      → Same w.book v.book → Move w v
+  -- a replica opens its end of a link
+  connect : (n l : ℕ) (to : Option ℕ) (a : Node L) (h : List ℕ) → L.asks None h Handshake → w.node n ≡ Some a → a.master ≡ false → a.follow ≡ None → w.link l ≡ None
+      → SetAt w.node v.node n (at_phase a l (Greet 0)) → SetAt w.link v.link l (fresh_link (Peer n) to h) → Same w.book v.book → Move w v
+  -- a node accepts a link that waits
+  accept : (l m : ℕ) (k : Link) → w.link l ≡ Some k → k.to ≡ None → Same w.node v.node → SetAt w.link v.link l (accepted m k) → Same w.book v.book → Move w v
   -- the server reads a line of the handshake
   greet : (l : ℕ) (k : Link) (s : Node L) (t rest r : List ℕ) → Serves w s l k → k.streams ≡ false → L.asks k.transaction t Handshake → L.says r Plain
       → k.ask.left ≡ t ++ rest → Same w.node v.node → SetAt w.link v.link l (used k rest r) → Same w.book v.book → Move w v

@@ -26,7 +26,7 @@ leave_keeps {L} w v n a offers h inv e sn sl sb =
     node_change w v n b inv sn sl (same_keeps L w.book v.book sb) (same_good L w.book v.book sb inv.good)
     (λ u. node_keeps w.book v.book b (same_keeps L w.book v.book sb) (ok u))
     (λ u x m c q ec uc xc i. q (inv.masters m n c a ec e uc u xc x (sym i)))
-    (λ l k i post x y s o u t. t a (ap (λ z. w.node z) y ∙ e) u o)
+    (λ l k i post x y s o u t. t n a y e u o)
     (λ f u x. none_some None f refl x)
   where
     b : Node L
@@ -63,7 +63,7 @@ set_good L laws b c i h a s g j x e = id_or L laws j i
     (λ q. g j x (sym (s.1 j q) ∙ e))
 
 pub draw_keeps : {L : Language} (laws : Laws L) (w v : World L) (n : ℕ) (b : Node L) → Invariant w → w.book b.id ≡ None → b.offset ≡ 0 → b.second ≡ None → b.backlog ≡ [] → b.follow ≡ None
-    → ((l : ℕ) (k : Link) → w.link l ≡ Some k → k.to ≡ n → k.serving ≡ false)
+    → ((l : ℕ) (k : Link) → w.link l ≡ Some k → k.to ≡ Some n → k.serving ≡ false)
     → SetAt w.node v.node n b → Same w.link v.link → SetAt w.book v.book b.id (record { start = b.held; effects = [] }) → Invariant v
 draw_keeps {L} laws w v n b inv fresh eo es er ef shut sn sl sb =
     node_change w v n b inv sn sl (set_keeps L laws w.book v.book b.id _ fresh sb)
@@ -93,7 +93,7 @@ promote_keeps {L} laws w v n i a start earlier later inv e u em ef fresh sn sl f
     (set_good L laws w.book v.book i _ (all_front L.IsGood earlier later (inv.good a.id _ fr.found)) sb inv.good)
     (λ u. ok)
     (λ u x m c q ec uc xc. fresh_id w i m c inv fresh ec uc)
-    (λ l k j post x y s o u t. true_false a.master (t a (ap (λ z. w.node z) y ∙ e) u o).0 em)
+    (λ l k j post x y s o u t. true_false a.master (t n a y e u o).0 em)
     (λ f u x. none_some a.follow f ef x)
   where
     b : Node L
@@ -130,7 +130,7 @@ promote_keeps {L} laws w v n i a start earlier later inv e u em ef fresh sn sl f
     }
 
 pub demote_keeps : {L : Language} (w v : World L) (n : ℕ) (a : Node L) (h : List ℕ) → Invariant w → w.node n ≡ Some a → a.follow ≡ None
-    → ((l : ℕ) (k : Link) → w.link l ≡ Some k → k.to ≡ n → k.serving ≡ true → k.streams ≡ false)
+    → ((l : ℕ) (k : Link) → w.link l ≡ Some k → k.to ≡ Some n → k.serving ≡ true → k.streams ≡ false)
     → SetAt w.node v.node n (record a { master = false; offers = true; upstream = h }) → Same w.link v.link → Same w.book v.book → Invariant v
 demote_keeps {L} w v n a h inv e ef shut sn sl sb =
     node_change w v n b inv sn sl (same_keeps L w.book v.book sb) (same_good L w.book v.book sb inv.good)

@@ -7,18 +7,18 @@ use Rattle.mr_history.specs.Language.{Language, Laws, Request, Transaction}
 use Rattle.mr_history.specs.Language.Request.{Handshake, Psync, Ack, Command, ReplicaOfNoOne, ReplicaOf, Empty, Quit}
 use Rattle.mr_history.specs.Changes.{SetAt}
 use Rattle.mr_history.specs.Node.{Phase, Node}
-use Rattle.mr_history.specs.World.{Way, Link, World, hears, shut}
+use Rattle.mr_history.specs.World.{Way, Link, World, is_to, hears, shut}
 use Rattle.mr_history.specs.Changing.{Reads, Stops}
 use Rattle.mr_history.specs.ServerRows.{IsQuiet}
 use Rattle.mr_history.specs.Invariant.{Talk, Invariant}
 use Rattle.mr_history.specs.Invariant.Talk.{greeting, greeted, asking, asking_for, refused, answered_full, answered_cont, loading, streaming}
-use Rattle.mr_history.proofs.Moves.{Move, Reaches}
+use Rattle.mr_history.proofs.Moves.{Move, WaitsUntouched, Reaches}
 use Rattle.mr_history.proofs.Moves.Move.{carry, drop_open, stop}
 use Rattle.mr_history.proofs.Moves.Reaches.{by_moves}
 use Rattle.mr_history.proofs.Histories.{append_nil}
 use Rattle.mr_history.proofs.Fronts.{some_is}
 use Rattle.mr_history.proofs.Keeping.{one_or, true_false, none_some}
-use Rattle.mr_history.proofs.Extend.{same_eqb, hears_is, hears_by}
+use Rattle.mr_history.proofs.Extend.{same_eqb, hears_by}
 
 abbrev pub put : {A : Type 0} → (ℕ → Option A) → ℕ → A → ℕ → Option A
 put f n x m = cond (m == n) (Some x) (f m)
@@ -57,11 +57,11 @@ take_none (suc n) = refl
 -- A move at a link, and then the counts.
 pub then_counts : {L : Language} (w v : World L) (l : ℕ) (mid fin : Link) → SetAt w.link v.link l fin
     → fin ≡ record mid { ask = record mid.ask { taken = fin.ask.taken }; tell = record mid.tell { taken = fin.tell.taken } }
-    → Move w (record v { link = put v.link l mid }) → Reaches w v
-then_counts {L} w v l mid fin sl e m =
+    → WaitsUntouched fin → Move w (record v { link = put v.link l mid }) → Reaches w v
+then_counts {L} w v l mid fin sl e wait m =
     by_moves (record v { link = put v.link l mid } ∷ []) (
       m,
-      carry l fin.ask.taken fin.tell.taken mid (put_here v.link l mid) (λ n. refl)
+      carry l fin.ask.taken fin.tell.taken mid (put_here v.link l mid) (subst (λ z. WaitsUntouched z) e wait) (λ n. refl)
           (subst (λ z. SetAt (put v.link l mid) v.link l z) e (put_after w.link v.link l mid fin sl)) (λ i. refl),
     )
 
@@ -71,7 +71,7 @@ one w v m = by_moves [] m
 -- A node's ends drop what is open, and it stops.
 pub stops_reach : {L : Language} (w v : World L) (n : ℕ) (a : Node L) → Stops w v n a → Reaches w v
 stops_reach {L} w v n a r =
-    by_moves (mid ∷ []) (drop_open (λ j k. k.to == n) (λ j. refl) r.links (λ j. refl), stop n r.wreck r.down r.nodes (λ j. refl) r.book)
+    by_moves (mid ∷ []) (drop_open (λ j k. is_to n k.to) (λ j. refl) r.no_links r.links (λ j. refl), stop n r.wreck r.down r.nodes (λ j. refl) r.book)
   where
     mid : World L
     mid = record { node = w.node; link = v.link; book = w.book }
@@ -146,13 +146,6 @@ each_link w v f l fin none some e = (e, λ j h. go j h (w.link j) refl)
     go j h None q = none j h q ∙ sym (ap (λ z. each f j z) q)
     go j h (Some x) q = some j x h q ∙ sym (ap (λ z. each f j z) q)
 
-pub mute : (n : ℕ) (k : Link) → k.streams ≡ false → hears n k ≡ false
-mute n k e = go (hears n k) refl
-  where
-    go : (b : Bool) → hears n k ≡ b → hears n k ≡ false
-    go true h = true_false k.streams (hears_is n k h).2 e
-    go false h = h
-
 -- the server's end of one link closes
 pub shut_one : {L : Language} (w v : World L) (l : ℕ) (k : Link) → w.link l ≡ Some k → SetAt w.link v.link l (shut true k)
     → (j : ℕ) (x : Link) → w.link j ≡ Some x → v.link j ≡ Some (shut (j == l) x)
@@ -165,7 +158,13 @@ shut_one w v l k e s j x q = one_or j l
     let no_is : j == l ≡ false = elim (eqb_tells j l) [ inl y ↦ absurd (h y.1) | inr y ↦ y.0 ] in
     s.1 j h ∙ (q ∙ ap (λ z. Some (shut z x)) (sym no_is)))
 
-pub silent_after : (n : ℕ) (z y : Link) → shut (hears n z) z ≡ y → y.to ≡ n → y.serving ≡ true → y.streams ≡ false
+-- .. and none comes
+pub shut_none : {A : Type 0} (f g : ℕ → Option A) (l : ℕ) (k m : A) → f l ≡ Some k → SetAt f g l m → (j : ℕ) → f j ≡ None → g j ≡ None
+shut_none f g l k m e s j q = one_or j l
+    (λ h. none_some (f l) k (ap (λ z. f z) (sym h) ∙ q) e)
+    (λ h. s.1 j h ∙ q)
+
+pub silent_after : (n : ℕ) (z y : Link) → shut (hears n z) z ≡ y → y.to ≡ Some n → y.serving ≡ true → y.streams ≡ false
 silent_after n z y e et eo = go (hears n z) refl z.streams refl
   where
     open_is : (shut (hears n z) z).serving ≡ true
@@ -176,7 +175,7 @@ silent_after n z y e et eo = go (hears n z) refl z.streams refl
     go false h false q = sym (ap (λ x. x.streams) e) ∙ q
     go false h true q = true_false (hears n z) (hears_by n z (ap (λ x. x.to) e ∙ et) (ap (λ x. cond x false z.serving) (sym h) ∙ open_is) q) h
 
-pub each_silent : (n j : ℕ) (o : Option Link) (y : Link) → each (λ i z. shut (hears n z) z) j o ≡ Some y → y.to ≡ n → y.serving ≡ true → y.streams ≡ false
+pub each_silent : (n j : ℕ) (o : Option Link) (y : Link) → each (λ i z. shut (hears n z) z) j o ≡ Some y → y.to ≡ Some n → y.serving ≡ true → y.streams ≡ false
 each_silent n j None y e = none_some None y refl e
 each_silent n j (Some z) y e = silent_after n z y (some_is (shut (hears n z) z) y e)
 

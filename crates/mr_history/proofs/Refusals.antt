@@ -13,8 +13,8 @@ use Rattle.mr_history.specs.Changing.{Stops, Unless}
 use Rattle.mr_history.specs.ServerRows.{Uses, ServerRow}
 use Rattle.mr_history.specs.FollowerRows.{BadAnswer, BadStream, Leaves, FollowerRow}
 use Rattle.mr_history.specs.FollowerRows.Usable.{a_reply, an_answer, a_snapshot, an_effect}
-use Rattle.mr_history.specs.Rows.{Opens, Dials, Ticks, Row}
-use Rattle.mr_history.specs.EachEvent.{LeadsAnew, BookChange, BookChangesByThreeWays, MastersTakeNewIds, StartsAnew, RestartsUnderNewIds, ShowsTheSame, PartsChangeNothing, Answer, Answered, AnswersAreOfOneMoment, AsksFromWhereItStands, StreamsAreFollowed, DialledLinksAreEmpty}
+use Rattle.mr_history.specs.Rows.{Opens, Connects, Dials, DialRow, Calls, ConnectRow, Accepts, Ticks, Row}
+use Rattle.mr_history.specs.EachEvent.{LeadsAnew, BookChange, BookChangesByThreeWays, MastersTakeNewIds, StartsAnew, RestartsUnderNewIds, ShowsTheSame, PartsChangeNothing, Answer, Answered, AnswersAreOfOneMoment, AsksFromWhereItStands, StreamsAreFollowed, OpensAnEnd, DialledLinksAreEmpty}
 use Rattle.mr_history.proofs.Fronts.{some_is}
 use Rattle.mr_history.proofs.Keeping.{one_or, true_false, none_some}
 
@@ -27,26 +27,26 @@ unless_stays : {L : Language} (w v : World L) (a : Node L) (Act : Type 0) → Un
 unless_stays w v a Act (Unless.acts u x) f = f u x
 unless_stays w v a Act (Unless.stopped u s) f = BookChange.stays s.book
 
-server_books : {L : Language} (w v : World L) (l : ℕ) (k : Link) (s : Node L) (given : L.Given) (fresh : L.Id) → w.node k.to ≡ Some s → s.up ≡ true
-    → ServerRow w v l k s given fresh → Booked w v
-server_books w v l k s given fresh e u (ServerRow.idles r) = BookChange.stays r.still.book
-server_books w v l k s given fresh e u (ServerRow.stops r) = BookChange.stays r.book
-server_books w v l k s given fresh e u (ServerRow.notes r) = BookChange.stays r.becomes.book
-server_books w v l k s given fresh e u (ServerRow.shuts r) = BookChange.stays r.becomes.book
-server_books w v l k s given fresh e u (ServerRow.skips r) = BookChange.stays r.becomes.book
-server_books w v l k s given fresh e u (ServerRow.faults r) = BookChange.stays r.becomes.book
-server_books w v l k s given fresh e u (ServerRow.greets r) = BookChange.stays r.becomes.book
-server_books w v l k s given fresh e u (ServerRow.refuses r) = BookChange.stays r.becomes.book
-server_books w v l k s given fresh e u (ServerRow.resynchronizes r) = BookChange.stays r.becomes.book
-server_books w v l k s given fresh e u (ServerRow.goes_on r) = BookChange.stays r.becomes.book
-server_books w v l k s given fresh e u (ServerRow.replies r) = BookChange.stays r.becomes.book
-server_books w v l k s given fresh e u (ServerRow.answers r) = BookChange.stays r.becomes.book
-server_books w v l k s given fresh e u (ServerRow.passes_limit r) = BookChange.stays r.becomes.book
-server_books w v l k s given fresh e u (ServerRow.runs r) = BookChange.extends k.to s r.effects e u r.master r.grown.book
-server_books w v l k s given fresh e u (ServerRow.quits r) = BookChange.stays r.becomes.book
-server_books w v l k s given fresh e u (ServerRow.promotes r) = BookChange.branches k.to s _ e u r.replica r.nodes.0 refl r.book
-server_books w v l k s given fresh e u (ServerRow.demotes r) = BookChange.stays r.book
-server_books w v l k s given fresh e u (ServerRow.turns r) = BookChange.stays r.book
+server_books : {L : Language} (w v : World L) (n l : ℕ) (k : Link) (s : Node L) (given : L.Given) (fresh : L.Id) → w.node n ≡ Some s → s.up ≡ true
+    → ServerRow w v n l k s given fresh → Booked w v
+server_books w v n l k s given fresh e u (ServerRow.idles r) = BookChange.stays r.still.book
+server_books w v n l k s given fresh e u (ServerRow.stops r) = BookChange.stays r.book
+server_books w v n l k s given fresh e u (ServerRow.notes r) = BookChange.stays r.becomes.book
+server_books w v n l k s given fresh e u (ServerRow.shuts r) = BookChange.stays r.becomes.book
+server_books w v n l k s given fresh e u (ServerRow.skips r) = BookChange.stays r.becomes.book
+server_books w v n l k s given fresh e u (ServerRow.faults r) = BookChange.stays r.becomes.book
+server_books w v n l k s given fresh e u (ServerRow.greets r) = BookChange.stays r.becomes.book
+server_books w v n l k s given fresh e u (ServerRow.refuses r) = BookChange.stays r.becomes.book
+server_books w v n l k s given fresh e u (ServerRow.resynchronizes r) = BookChange.stays r.becomes.book
+server_books w v n l k s given fresh e u (ServerRow.goes_on r) = BookChange.stays r.becomes.book
+server_books w v n l k s given fresh e u (ServerRow.replies r) = BookChange.stays r.becomes.book
+server_books w v n l k s given fresh e u (ServerRow.answers r) = BookChange.stays r.becomes.book
+server_books w v n l k s given fresh e u (ServerRow.passes_limit r) = BookChange.stays r.becomes.book
+server_books w v n l k s given fresh e u (ServerRow.runs r) = BookChange.extends n s r.effects e u r.master r.grown.book
+server_books w v n l k s given fresh e u (ServerRow.quits r) = BookChange.stays r.becomes.book
+server_books w v n l k s given fresh e u (ServerRow.promotes r) = BookChange.branches n s _ e u r.replica r.nodes.0 refl r.book
+server_books w v n l k s given fresh e u (ServerRow.demotes r) = BookChange.stays r.book
+server_books w v n l k s given fresh e u (ServerRow.turns r) = BookChange.stays r.book
 
 leaving_books : {L : Language} (w v : World L) (n : ℕ) (a : Node L) (p : Phase L.Id) (k : Link) → Leaves w v n a p k → Booked w v
 leaving_books w v n a p k (Leaves.at_an_answer c b) = BookChange.stays b.book
@@ -72,6 +72,14 @@ dialling_books w v n s a b (Dials.connects r) = BookChange.stays r.book
 dialling_books w v n s a b (Dials.stops r) = BookChange.stays r.book
 dialling_books w v n s a b (Dials.server_stops r) = BookChange.stays r.book
 
+calling_books : {L : Language} (w v : World L) (n : ℕ) (a : Node L) → Calls w v n a → Booked w v
+calling_books w v n a (Calls.connects r) = BookChange.stays r.book
+calling_books w v n a (Calls.stops r) = BookChange.stays r.book
+
+accepting_books : {L : Language} (w v : World L) (l m : ℕ) (k : Link) (b : Node L) → Accepts w v l m k b → Booked w v
+accepting_books w v l m k b (Accepts.accepts r) = BookChange.stays r.book
+accepting_books w v l m k b (Accepts.stops r) = BookChange.stays r.book
+
 ticking_books : {L : Language} (w v : World L) (n : ℕ) (a : Node L) (given : L.Given) → w.node n ≡ Some a → a.up ≡ true → Ticks w v n a given → Booked w v
 ticking_books w v n a given e u (Ticks.beats r) = BookChange.extends n a r.effects e u r.master r.grown.book
 ticking_books w v n a given e u (Ticks.acknowledges r) = BookChange.stays r.becomes.book
@@ -87,11 +95,13 @@ book_changes {L} w v (Event.Start i master) r = BookChange.draws r.node _ r.node
 book_changes {L} w v (Event.Restart n file i) r = BookChange.draws n _ r.nodes.0 refl r.book
 book_changes {L} w v (Event.Client n) r = unless_stays w v r.node _ r.does (λ u x. opening_books w v n r.node x)
 book_changes {L} w v (Event.Dial n s) r = unless_stays w v r.node _ r.does (λ u x. unless_stays w v r.server _ x (λ u' y. dialling_books w v n s r.node r.server y))
+book_changes {L} w v (Event.Connect n) r = unless_stays w v r.node _ r.does (λ u x. calling_books w v n r.node x)
+book_changes {L} w v (Event.Accept l m) r = unless_stays w v r.node _ r.does (λ u x. accepting_books w v l m r.link r.node x)
 book_changes {L} w v (Event.Command l bytes) r = BookChange.stays r.becomes.book
 book_changes {L} w v (Event.Deliver l Server n) r = unless_stays w v r.at.node _ r.does (λ u x. BookChange.stays x.book)
 book_changes {L} w v (Event.Deliver l Dialler n) r = either r (λ x. unless_stays w v x.at.node _ x.does (λ u y. BookChange.stays y.book)) (λ x. BookChange.stays x.becomes.book)
 book_changes {L} w v (Event.Step l Server given fresh) r =
-    unless_stays w v r.at.node _ r.does (λ u x. server_books w v l r.at.link r.at.node given fresh r.at.node_found u x)
+    unless_stays w v r.at.node _ r.does (λ u x. server_books w v r.at.n l r.at.link r.at.node given fresh r.at.node_found u x)
 book_changes {L} w v (Event.Step l Dialler given fresh) r = unless_stays w v r.at.node _ r.does (λ u x. follower_books w v r.at.n l r.at.node r.at.phase r.at.link x)
 book_changes {L} w v (Event.Tick n given) r = unless_stays w v r.node _ r.does (λ u x. ticking_books w v n r.node given r.found u x)
 book_changes {L} w v (Event.Break l Server) r = unless_stays w v r.at.node _ r.does (λ u x. BookChange.stays x.book)
@@ -137,25 +147,25 @@ masters_take_new_ids {L} w v e row n a b ea ma eb ub mb = go e row
       upstream = subst (λ z. z.upstream ≡ []) q upstream;
     })
 
-    at_server : (l : ℕ) (k : Link) (s : Node L) (given : L.Given) (fresh : L.Id) → w.node k.to ≡ Some s → ServerRow w v l k s given fresh → LeadsAnew w b
-    at_server l k s given fresh es (ServerRow.idles r) = same r.still.nodes
-    at_server l k s given fresh es (ServerRow.stops r) = stopped k.to s r
-    at_server l k s given fresh es (ServerRow.notes r) = same r.becomes.nodes
-    at_server l k s given fresh es (ServerRow.shuts r) = same r.becomes.nodes
-    at_server l k s given fresh es (ServerRow.skips r) = same r.becomes.nodes
-    at_server l k s given fresh es (ServerRow.faults r) = same r.becomes.nodes
-    at_server l k s given fresh es (ServerRow.greets r) = same r.becomes.nodes
-    at_server l k s given fresh es (ServerRow.refuses r) = same r.becomes.nodes
-    at_server l k s given fresh es (ServerRow.resynchronizes r) = same r.becomes.nodes
-    at_server l k s given fresh es (ServerRow.goes_on r) = same r.becomes.nodes
-    at_server l k s given fresh es (ServerRow.replies r) = same r.becomes.nodes
-    at_server l k s given fresh es (ServerRow.answers r) = same r.becomes.nodes
-    at_server l k s given fresh es (ServerRow.passes_limit r) = same r.becomes.nodes
-    at_server l k s given fresh es (ServerRow.runs r) = as_it_was k.to _ s r.grown.nodes es refl
-    at_server l k s given fresh es (ServerRow.quits r) = same r.becomes.nodes
-    at_server l k s given fresh es (ServerRow.promotes r) = drawn k.to _ r.nodes r.book.new_id refl refl
-    at_server l k s given fresh es (ServerRow.demotes r) = changed k.to _ r.nodes (λ h q. true_false b.master mb (ap (λ z. z.master) (sym q)))
-    at_server l k s given fresh es (ServerRow.turns r) = as_it_was k.to _ s r.nodes es refl
+    at_server : (m l : ℕ) (k : Link) (s : Node L) (given : L.Given) (fresh : L.Id) → w.node m ≡ Some s → ServerRow w v m l k s given fresh → LeadsAnew w b
+    at_server m l k s given fresh es (ServerRow.idles r) = same r.still.nodes
+    at_server m l k s given fresh es (ServerRow.stops r) = stopped m s r
+    at_server m l k s given fresh es (ServerRow.notes r) = same r.becomes.nodes
+    at_server m l k s given fresh es (ServerRow.shuts r) = same r.becomes.nodes
+    at_server m l k s given fresh es (ServerRow.skips r) = same r.becomes.nodes
+    at_server m l k s given fresh es (ServerRow.faults r) = same r.becomes.nodes
+    at_server m l k s given fresh es (ServerRow.greets r) = same r.becomes.nodes
+    at_server m l k s given fresh es (ServerRow.refuses r) = same r.becomes.nodes
+    at_server m l k s given fresh es (ServerRow.resynchronizes r) = same r.becomes.nodes
+    at_server m l k s given fresh es (ServerRow.goes_on r) = same r.becomes.nodes
+    at_server m l k s given fresh es (ServerRow.replies r) = same r.becomes.nodes
+    at_server m l k s given fresh es (ServerRow.answers r) = same r.becomes.nodes
+    at_server m l k s given fresh es (ServerRow.passes_limit r) = same r.becomes.nodes
+    at_server m l k s given fresh es (ServerRow.runs r) = as_it_was m _ s r.grown.nodes es refl
+    at_server m l k s given fresh es (ServerRow.quits r) = same r.becomes.nodes
+    at_server m l k s given fresh es (ServerRow.promotes r) = drawn m _ r.nodes r.book.new_id refl refl
+    at_server m l k s given fresh es (ServerRow.demotes r) = changed m _ r.nodes (λ h q. true_false b.master mb (ap (λ z. z.master) (sym q)))
+    at_server m l k s given fresh es (ServerRow.turns r) = as_it_was m _ s r.nodes es refl
 
     at_follower : (m l : ℕ) (c : Node L) (p : Phase L.Id) (k : Link) → w.node m ≡ Some c → FollowerRow w v m l c p k → LeadsAnew w b
     at_follower m l c p k ec (FollowerRow.idles r) = same r.still.nodes
@@ -182,6 +192,14 @@ masters_take_new_ids {L} w v e row n a b ea ma eb ub mb = go e row
     dials m s c d ec (Dials.stops r) = stopped m c r
     dials m s c d ec (Dials.server_stops r) = stopped s d r
 
+    calls : (m : ℕ) (c : Node L) → w.node m ≡ Some c → Calls w v m c → LeadsAnew w b
+    calls m c ec (Calls.connects r) = as_it_was m _ c r.nodes ec refl
+    calls m c ec (Calls.stops r) = stopped m c r
+
+    accepts : (l m : ℕ) (k : Link) (c : Node L) → Accepts w v l m k c → LeadsAnew w b
+    accepts l m k c (Accepts.accepts r) = same r.nodes
+    accepts l m k c (Accepts.stops r) = stopped m c r
+
     ticks : (m : ℕ) (c : Node L) (given : L.Given) → w.node m ≡ Some c → Ticks w v m c given → LeadsAnew w b
     ticks m c given ec (Ticks.beats r) = as_it_was m _ c r.grown.nodes ec refl
     ticks m c given ec (Ticks.acknowledges r) = same r.becomes.nodes
@@ -193,10 +211,12 @@ masters_take_new_ids {L} w v e row n a b ea ma eb ub mb = go e row
     go (Event.Restart m file i) r = drawn m _ r.nodes r.book.new_id refl refl
     go (Event.Client m) r = unless r.node _ r.does (λ x. opens m r.node x)
     go (Event.Dial m s) r = unless r.node _ r.does (λ x. unless r.server _ x (λ y. dials m s r.node r.server r.found y))
+    go (Event.Connect m) r = unless r.node _ r.does (λ x. calls m r.node r.found x)
+    go (Event.Accept l m) r = unless r.node _ r.does (λ x. accepts l m r.link r.node x)
     go (Event.Command l bytes) r = same r.becomes.nodes
     go (Event.Deliver l Server m) r = unless r.at.node _ r.does (λ x. same x.nodes)
     go (Event.Deliver l Dialler m) r = either r (λ x. unless x.at.node _ x.does (λ y. same y.nodes)) (λ x. same x.becomes.nodes)
-    go (Event.Step l Server given fresh) r = unless r.at.node _ r.does (λ x. at_server l r.at.link r.at.node given fresh r.at.node_found x)
+    go (Event.Step l Server given fresh) r = unless r.at.node _ r.does (λ x. at_server r.at.n l r.at.link r.at.node given fresh r.at.node_found x)
     go (Event.Step l Dialler given fresh) r = unless r.at.node _ r.does (λ x. at_follower r.at.n l r.at.node r.at.phase r.at.link r.at.node_found x)
     go (Event.Tick m given) r = unless r.node _ r.does (λ x. ticks m r.node given r.found x)
     go (Event.Break l Server) r = unless r.at.node _ r.does (λ x. same x.nodes)
@@ -226,7 +246,7 @@ parts_change_nothing {L} w v n l a b p k ea row nothing eb ub = go row
 -- the answer to PSYNC
 
 pub answers : {L : Language} → AnswersAreOfOneMoment L
-answers {L} w v l k k' s given fresh ek row st ek' st' = go row
+answers {L} w v n l k k' s given fresh ek row st ek' st' = go row
   where
     no : (x : Link) → v.link l ≡ Some x → x.streams ≡ k.streams → Answered w v s k k'
     no x e es = let i = some_is k' x (sym ek' ∙ e) in true_false k'.streams st' (ap (λ z. z.streams) i ∙ (es ∙ st))
@@ -235,7 +255,7 @@ answers {L} w v l k k' s given fresh ek row st ek' st' = go row
         → Answer s query bytes → Answered w v s k k'
     joins query bytes x m u sn e et ans = let i = some_is k' x (sym ek' ∙ e) in record { master = m; nodes = sn; query = query; uses = u; bytes = bytes; sent = ap (λ z. z.tell.left) i ∙ et; answer = ans }
 
-    go : ServerRow w v l k s given fresh → Answered w v s k k'
+    go : ServerRow w v n l k s given fresh → Answered w v s k k'
     go (ServerRow.idles r) = no k (r.still.links l ∙ ek) refl
     go (ServerRow.stops r) = no _ (r.links l k ek) refl
     go (ServerRow.notes r) = no _ r.becomes.links.0 refl
@@ -318,27 +338,37 @@ same_or : (a c : ℕ) → (a ≡ c) ⊎ (a ≢ c)
 same_or a c = grind arith
 
 pub dialled_links_are_empty : {L : Language} → DialledLinksAreEmpty L
-dialled_links_are_empty {L} w v n s row b f k eb ub ef ek = first row.does
+dialled_links_are_empty {L} w v n opens b f k eb ub ef ek = go opens
   where
-    stays : Same w.node v.node → k.tell ≡ no_bytes
-    stays sn = let i = some_is b row.node (sym eb ∙ (sn n ∙ row.found)) in none_some row.node.follow f row.waiting (ap (λ z. z.follow) (sym i) ∙ ef)
+    stays : (a : Node L) → w.node n ≡ Some a → a.follow ≡ None → v.node n ≡ w.node n → k.tell ≡ no_bytes
+    stays a ea fa sn = let i = some_is b a (sym eb ∙ (sn ∙ ea)) in none_some a.follow f fa (ap (λ z. z.follow) (sym i) ∙ ef)
 
-    go : Dials w v n s row.node row.server → k.tell ≡ no_bytes
-    go (Dials.connects r) =
+    connected : (to : Option ℕ) (a : Node L) → Connects w v n to a → k.tell ≡ no_bytes
+    connected to a r =
         let i = some_is _ b (sym r.nodes.0 ∙ eb) in
         let j = some_is (record { link = r.link; phase = Greet 0 }) f (ap (λ z. z.follow) i ∙ ef) in
         let here = some_is _ k (sym r.links.0 ∙ (ap (λ z. v.link z.link) j ∙ ek)) in
         ap (λ z. z.tell) (sym here)
-    go (Dials.stops r) = let i = some_is r.wreck b (sym r.nodes.0 ∙ eb) in true_false b.up ub (ap (λ z. z.up) (sym i) ∙ r.down)
-    go (Dials.server_stops r) = elim (same_or n s) [
-      | inl q ↦ (let i = some_is r.wreck b (sym r.nodes.0 ∙ (ap (λ z. v.node z) (sym q) ∙ eb)) in true_false b.up ub (ap (λ z. z.up) (sym i) ∙ r.down))
-      | inr ne ↦ (let i = some_is b row.node (sym eb ∙ (r.nodes.1 n ne ∙ row.found)) in none_some row.node.follow f row.waiting (ap (λ z. z.follow) (sym i) ∙ ef))
+
+    stopped : (a : Node L) → Stops w v n a → k.tell ≡ no_bytes
+    stopped a r = let i = some_is r.wreck b (sym r.nodes.0 ∙ eb) in true_false b.up ub (ap (λ z. z.up) (sym i) ∙ r.down)
+
+    dials : (s : ℕ) (row : DialRow w n s v) → Dials w v n s row.node row.server → k.tell ≡ no_bytes
+    dials s row (Dials.connects r) = connected (Some s) row.node r
+    dials s row (Dials.stops r) = stopped row.node r
+    dials s row (Dials.server_stops r) = elim (same_or n s) [
+      | inl q ↦ stopped row.server (subst (λ z. Stops w v z row.server) (sym q) r)
+      | inr ne ↦ stays row.node row.found row.waiting (r.nodes.1 n ne)
     ]
 
-    second : Unless w v row.server (Dials w v n s row.node row.server) → k.tell ≡ no_bytes
-    second (Unless.acts u x) = go x
-    second (Unless.stopped u x) = stays x.nodes
+    calls : (row : ConnectRow w n v) → Calls w v n row.node → k.tell ≡ no_bytes
+    calls row (Calls.connects r) = connected None row.node r
+    calls row (Calls.stops r) = stopped row.node r
 
-    first : Unless w v row.node (Unless w v row.server (Dials w v n s row.node row.server)) → k.tell ≡ no_bytes
-    first (Unless.acts u x) = second x
-    first (Unless.stopped u x) = stays x.nodes
+    unless : (a c : Node L) (Act : Type 0) → w.node n ≡ Some a → a.follow ≡ None → (Act → k.tell ≡ no_bytes) → Unless w v c Act → k.tell ≡ no_bytes
+    unless a c Act ea fa act (Unless.acts u x) = act x
+    unless a c Act ea fa act (Unless.stopped u x) = stays a ea fa (x.nodes n)
+
+    go : OpensAnEnd w v n → k.tell ≡ no_bytes
+    go (OpensAnEnd.dials s row) = unless row.node row.node _ row.found row.waiting (λ x. unless row.node row.server _ row.found row.waiting (λ y. dials s row y) x) row.does
+    go (OpensAnEnd.connects row) = unless row.node row.node _ row.found row.waiting (λ x. calls row x) row.does

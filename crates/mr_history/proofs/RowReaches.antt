@@ -1,25 +1,25 @@
 -- Each row is a few moves.
-use Rattle.std.proofs.Common.{ℕ, List, [], ◌∷◌, ◌++◌, ◌+◌, ◌≡◌, ◌⊎◌, Bool, Option, None, Some, true, false, cond, refl, sym, ◌∙◌, ap, subst, inl, inr, ◌==◌}
+use Rattle.std.proofs.Common.{ℕ, List, [], ◌∷◌, ◌++◌, ◌+◌, ◌≤◌, ◌≡◌, ◌⊎◌, Bool, Option, None, Some, true, false, cond, length, refl, sym, ◌∙◌, ap, subst, inl, inr, arith, ◌==◌}
 use Rattle.mr_history.specs.Language.{Language, Laws}
 use Rattle.mr_history.specs.Node.{Node}
 use Rattle.mr_history.specs.Node.Phase.{Stream}
-use Rattle.mr_history.specs.World.{Caller, Link, World, shut}
+use Rattle.mr_history.specs.World.{Caller, Way, Link, World, IsUntouched, no_bytes, is_to, shut}
 use Rattle.mr_history.specs.World.Caller.{Client, Peer}
 use Rattle.mr_history.specs.Event.{Event}
 use Rattle.mr_history.specs.Event.Side.{Server, Dialler}
 use Rattle.mr_history.specs.Changing.{Still, LinkBecomes, Unless, NodeBecomes}
 use Rattle.mr_history.specs.ServerRows.{ServerRow}
 use Rattle.mr_history.specs.FollowerRows.{FollowerRow}
-use Rattle.mr_history.specs.Rows.{fresh_node, fresh_link, more, StartRow, RestartRow, Opens, ClientRow, Dials, DialRow, CommandRow, DeliverToServer, DeliverToReplica, DeliverToClient, BreakOfReplica, BreakOfClient, Acknowledges, Ticks, Row}
+use Rattle.mr_history.specs.Rows.{fresh_node, fresh_link, more, StartRow, RestartRow, Opens, ClientRow, Dials, DialRow, Calls, ConnectRow, Accepts, AcceptRow, CommandRow, DeliverToServer, DeliverToReplica, DeliverToClient, BreakOfReplica, BreakOfClient, Acknowledges, Ticks, Row}
 use Rattle.mr_history.specs.Invariant.{Talk, Invariant}
 use Rattle.mr_history.specs.Invariant.Talk.{greeting, greeted, asking, asking_for, refused, answered_full, answered_cont, loading, streaming}
 use Rattle.mr_history.proofs.Moves.{Move, Reaches}
-use Rattle.mr_history.proofs.Moves.Move.{still, leave, close, carry, loose, draw, extend, dial, noted}
+use Rattle.mr_history.proofs.Moves.Move.{still, leave, close, carry, loose, draw, extend, connect, accept, noted}
 use Rattle.mr_history.proofs.Moves.Reaches.{by_moves}
-use Rattle.mr_history.proofs.Keeping.{none_some}
+use Rattle.mr_history.proofs.Keeping.{none_some, asked_untouched}
 use Rattle.mr_history.proofs.Fronts.{some_is}
-use Rattle.mr_history.proofs.Extend.{same_eqb}
-use Rattle.mr_history.proofs.Refine.{one, Free, shut_one, stops_reach}
+use Rattle.mr_history.proofs.Extend.{to_yes}
+use Rattle.mr_history.proofs.Refine.{one, Free, shut_one, shut_none, stops_reach}
 use Rattle.mr_history.proofs.FollowerReaches.{follower_reaches}
 use Rattle.mr_history.proofs.ServerReaches.{server_reaches}
 
@@ -41,17 +41,16 @@ restart_reaches {L} w v n file i r = by_moves (closed ∷ []) (first, second)
     closed = record { node = w.node; link = v.link; book = w.book }
 
     first : Move w closed
-    first = close (λ j k. k.to == n) (λ j. refl) r.links (λ j. refl)
+    first = close (λ j k. is_to n k.to) (λ j. refl) r.no_links r.links (λ j. refl)
 
-    shut_to : (j : ℕ) (k : Link) → v.link j ≡ Some k → k.to ≡ n → k.serving ≡ false
+    shut_to : (j : ℕ) (k : Link) → v.link j ≡ Some k → k.to ≡ Some n → k.serving ≡ false
     shut_to j k e h = go (w.link j) refl
       where
         go : (o : Option Link) → w.link j ≡ o → k.serving ≡ false
         go None q = none_some (v.link j) k (r.no_links j q) e
         go (Some z) q =
-            let same = some_is (shut (z.to == n) z) k (sym (r.links j z q) ∙ e) in
-            let to : z.to ≡ n = ap (λ x. x.to) same ∙ h in
-            let yes_is : z.to == n ≡ true = ap (λ x. x == n) to ∙ same_eqb n in
+            let same = some_is (shut (is_to n z.to) z) k (sym (r.links j z q) ∙ e) in
+            let yes_is : is_to n z.to ≡ true = to_yes n z.to (ap (λ x. x.to) same ∙ h) in
             sym (ap (λ x. x.serving) same) ∙ ap (λ x. cond x false z.serving) yes_is
 
     second : Move closed v
@@ -74,32 +73,58 @@ client_reaches : {L : Language} (w v : World L) (n : ℕ) → Invariant w → Cl
 client_reaches {L} w v n inv r = unless w v r.node (Opens w v n r.node) (λ u x. go x) r.does
   where
     go : Opens w v n r.node → Reaches w v
-    go (Opens.opens l new b) = one w v (loose l (fresh_link (Client true) n []) (new_is_free w l inv new) b.nodes b.links b.book)
+    go (Opens.opens l new b) = one w v (loose l (fresh_link (Client true) (Some n) []) (new_is_free w l inv new) (λ q. none_some (Some n) n q refl) b.nodes b.links b.book)
     go (Opens.stops s) = stops_reach w v n r.node s
 
 dial_reaches : {L : Language} (w v : World L) (n s : ℕ) → DialRow w n s v → Reaches w v
 dial_reaches {L} w v n s r = unless w v r.node (Unless w v r.server (Dials w v n s r.node r.server)) (λ u x. unless w v r.server (Dials w v n s r.node r.server) (λ u' y. go y) x) r.does
   where
     go : Dials w v n s r.node r.server → Reaches w v
-    go (Dials.connects x) = one w v (dial n s x.link r.node x.request x.asks r.found r.replica r.waiting x.new_link x.nodes x.links x.book)
+    go (Dials.connects x) = one w v (connect n x.link (Some s) r.node x.request x.asks r.found r.replica r.waiting x.new_link x.nodes x.links x.book)
     go (Dials.stops x) = stops_reach w v n r.node x
     go (Dials.server_stops x) = stops_reach w v s r.server x
 
+connect_reaches : {L : Language} (w v : World L) (n : ℕ) → ConnectRow w n v → Reaches w v
+connect_reaches {L} w v n r = unless w v r.node (Calls w v n r.node) (λ u x. go x) r.does
+  where
+    go : Calls w v n r.node → Reaches w v
+    go (Calls.connects x) = one w v (connect n x.link None r.node x.request x.asks r.found r.replica r.waiting x.new_link x.nodes x.links x.book)
+    go (Calls.stops x) = stops_reach w v n r.node x
+
+accept_reaches : {L : Language} (w v : World L) (l m : ℕ) → AcceptRow w l m v → Reaches w v
+accept_reaches {L} w v l m r = unless w v r.node (Accepts w v l m r.link r.node) (λ u x. go x) r.does
+  where
+    go : Accepts w v l m r.link r.node → Reaches w v
+    go (Accepts.accepts b) = one w v (accept l m r.link r.found r.waiting b.nodes b.links b.book)
+    go (Accepts.stops x) = stops_reach w v m r.node x
+
 command_reaches : {L : Language} (w v : World L) (l : ℕ) (bytes : List ℕ) → Invariant w → CommandRow w l bytes v → Reaches w v
 command_reaches {L} w v l bytes inv r =
-    one w v (loose l _ (client_is_free w l r.link true inv r.found r.client) r.becomes.nodes r.becomes.links r.becomes.book)
+    one w v (loose l _ (client_is_free w l r.link true inv r.found r.client) (λ q. asked_untouched r.link _ (inv.waiting l r.link r.found q)) r.becomes.nodes r.becomes.links r.becomes.book)
 
 deliver_to_server : {L : Language} (w v : World L) (l n : ℕ) → DeliverToServer w l n v → Reaches w v
 deliver_to_server {L} w v l n r = unless w v r.at.node (LinkBecomes w v l (record r.at.link { ask = more n r.at.link.ask }))
-    (λ u x. one w v (carry l (r.at.link.ask.taken + n) r.at.link.tell.taken r.at.link r.at.found x.nodes x.links x.book)) r.does
+    (λ u x. one w v (carry l (r.at.link.ask.taken + n) r.at.link.tell.taken r.at.link r.at.found (λ q. none_some r.at.link.to r.at.n q r.at.to) x.nodes x.links x.book)) r.does
 
-deliver_to_replica : {L : Language} (w v : World L) (l n : ℕ) → DeliverToReplica w l n v → Reaches w v
-deliver_to_replica {L} w v l n r = unless w v r.at.node (LinkBecomes w v l (record r.at.link { tell = more n r.at.link.tell }))
-    (λ u x. one w v (carry l r.at.link.ask.taken (r.at.link.tell.taken + n) r.at.link r.at.found x.nodes x.links x.book)) r.does
+-- of what nobody said no byte is taken
+more_none : (n : ℕ) (way : Way) → way ≡ no_bytes → way.taken + n ≤ length way.left → more n way ≡ no_bytes
+more_none n way e h =
+    let none : n ≡ 0 = (let t = ap (λ z. z.taken) e in let b = ap (λ z. length z.left) e in omega (arith, t, b, h)) in
+    ap (λ z. more z way) none ∙ (more_zero way ∙ e)
+  where
+    more_zero : (way : Way) → more 0 way ≡ way
+    more_zero way = let z : way.taken + 0 ≡ way.taken = omega arith in ap (λ t. record way { taken = t }) z
 
-deliver_to_client : {L : Language} (w v : World L) (l n : ℕ) → DeliverToClient w l n v → Reaches w v
-deliver_to_client {L} w v l n r =
-    one w v (carry l r.at.link.ask.taken (r.at.link.tell.taken + n) r.at.link r.at.found r.becomes.nodes r.becomes.links r.becomes.book)
+told_untouched : (k : Link) (n : ℕ) → k.tell.taken + n ≤ length k.tell.left → IsUntouched k → IsUntouched (record k { tell = more n k.tell })
+told_untouched k n h u = record { serving = u.serving; streams = u.streams; ask = u.ask; tell = more_none n k.tell u.tell h; transaction = u.transaction }
+
+deliver_to_replica : {L : Language} (w v : World L) (l n : ℕ) → Invariant w → DeliverToReplica w l n v → Reaches w v
+deliver_to_replica {L} w v l n inv r = unless w v r.at.node (LinkBecomes w v l (record r.at.link { tell = more n r.at.link.tell }))
+    (λ u x. one w v (carry l r.at.link.ask.taken (r.at.link.tell.taken + n) r.at.link r.at.found (λ q. told_untouched r.at.link n r.sent (inv.waiting l r.at.link r.at.found q)) x.nodes x.links x.book)) r.does
+
+deliver_to_client : {L : Language} (w v : World L) (l n : ℕ) → Invariant w → DeliverToClient w l n v → Reaches w v
+deliver_to_client {L} w v l n inv r =
+    one w v (carry l r.at.link.ask.taken (r.at.link.tell.taken + n) r.at.link r.at.found (λ q. told_untouched r.at.link n r.sent (inv.waiting l r.at.link r.at.found q)) r.becomes.nodes r.becomes.links r.becomes.book)
 
 streams_is : {L : Language} (w : World L) (a : Node L) (k : Link) → Talk w a Stream k → k.streams ≡ true
 streams_is w a k (greeting x e s y z) = absurd (cc)
@@ -121,14 +146,17 @@ acknowledges_reach {L} w v n a inv ea u r =
 tick_reaches : {L : Language} (w v : World L) (n : ℕ) (a : Node L) (given : L.Given) → Invariant w → w.node n ≡ Some a → a.up ≡ true → Ticks w v n a given → Reaches w v
 tick_reaches {L} w v n a given inv ea u (Ticks.beats r) =
     one w v (extend n a r.effects r.grown.held r.grown.backlog r.grown.book.history ea u r.master r.grown.good r.grown.folds r.grown.last_bytes r.grown.nodes
-    r.links r.grown.book.found r.grown.book.book)
+    r.no_links r.links r.grown.book.found r.grown.book.book)
 tick_reaches w v n a given inv ea u (Ticks.acknowledges r) = acknowledges_reach w v n a inv ea u r
 tick_reaches w v n a given inv ea u (Ticks.rests m s) = still_reaches w v s
 tick_reaches w v n a given inv ea u (Ticks.stops r) = stops_reach w v n a r
 
 break_of_client : {L : Language} (w v : World L) (l : ℕ) → Invariant w → BreakOfClient w l v → Reaches w v
 break_of_client {L} w v l inv r =
-    one w v (loose l _ (client_is_free w l r.at.link true inv r.at.found r.at.client) r.becomes.nodes r.becomes.links r.becomes.book)
+    one w v (loose l _ (client_is_free w l r.at.link true inv r.at.found r.at.client) (λ q. gone r.at.link (inv.waiting l r.at.link r.at.found q)) r.becomes.nodes r.becomes.links r.becomes.book)
+  where
+    gone : (k : Link) → IsUntouched k → IsUntouched (record k { caller = Client false })
+    gone k u = record { serving = u.serving; streams = u.streams; ask = u.ask; tell = u.tell; transaction = u.transaction }
 
 either : {A B P : Type 0} → (A → P) → (B → P) → A ⊎ B → P
 either f g (inl x) = f x
@@ -139,16 +167,18 @@ row_reaches laws w (Event.Start i master) v inv r = start_reaches w v i master r
 row_reaches laws w (Event.Restart n file i) v inv r = restart_reaches w v n file i r
 row_reaches laws w (Event.Client n) v inv r = client_reaches w v n inv r
 row_reaches laws w (Event.Dial n s) v inv r = dial_reaches w v n s r
+row_reaches laws w (Event.Connect n) v inv r = connect_reaches w v n r
+row_reaches laws w (Event.Accept l m) v inv r = accept_reaches w v l m r
 row_reaches laws w (Event.Command l bytes) v inv r = command_reaches w v l bytes inv r
 row_reaches laws w (Event.Deliver l Server n) v inv r = deliver_to_server w v l n r
-row_reaches laws w (Event.Deliver l Dialler n) v inv r = either (λ x. deliver_to_replica w v l n x) (λ x. deliver_to_client w v l n x) r
+row_reaches laws w (Event.Deliver l Dialler n) v inv r = either (λ x. deliver_to_replica w v l n inv x) (λ x. deliver_to_client w v l n inv x) r
 row_reaches laws w (Event.Step l Server given fresh) v inv r =
-    unless w v r.at.node (ServerRow w v l r.at.link r.at.node given fresh) (λ u x. server_reaches laws w v l r.at.link r.at.node given fresh inv r.at.found r.at.node_found r.at.serving u x) r.does
+    unless w v r.at.node (ServerRow w v r.at.n l r.at.link r.at.node given fresh) (λ u x. server_reaches laws w v r.at.n l r.at.link r.at.node given fresh inv r.at.found r.at.to r.at.node_found r.at.serving u x) r.does
 row_reaches laws w (Event.Step l Dialler given fresh) v inv r =
-    unless w v r.at.node (FollowerRow w v r.at.n l r.at.node r.at.phase r.at.link) (λ u x. follower_reaches laws w v r.at.n l r.at.node r.at.phase r.at.link r.at.found r.at.node_found r.at.follow u x) r.does
+    unless w v r.at.node (FollowerRow w v r.at.n l r.at.node r.at.phase r.at.link) (λ u x. follower_reaches laws w v r.at.n l r.at.node r.at.phase r.at.link inv r.at.found r.at.node_found r.at.follow u x) r.does
 row_reaches laws w (Event.Tick n given) v inv r = unless w v r.node (Ticks w v n r.node given) (λ u x. tick_reaches w v n r.node given inv r.found u x) r.does
 row_reaches laws w (Event.Break l Server) v inv r =
-    unless w v r.at.node (LinkBecomes w v l (shut true r.at.link)) (λ u x. one w v (close (λ j y. j == l) x.nodes (shut_one w v l r.at.link r.at.found x.links) x.book)) r.does
+    unless w v r.at.node (LinkBecomes w v l (shut true r.at.link)) (λ u x. one w v (close (λ j y. j == l) x.nodes (shut_none w.link v.link l r.at.link _ r.at.found x.links) (shut_one w v l r.at.link r.at.found x.links) x.book)) r.does
 row_reaches laws w (Event.Break l Dialler) v inv r = either (λ x. break_of_replica x) (λ x. break_of_client w v l inv x) r
   where
     break_of_replica : BreakOfReplica w l v → Reaches w v

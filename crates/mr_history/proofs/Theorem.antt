@@ -16,15 +16,15 @@ use Rattle.mr_history.specs.FollowerRows.Usable.{a_snapshot, an_effect, an_answe
 use Rattle.mr_history.specs.Invariant.{AtTip, Talk, Invariant, NodeIsSound}
 use Rattle.mr_history.specs.Invariant.Talk.{greeting, greeted, asking, asking_for, refused, answered_full, answered_cont, loading, streaming}
 use Rattle.mr_history.proofs.Moves.{Move, Chain, Reaches}
-use Rattle.mr_history.proofs.Moves.Move.{still, stop, leave, close, drop_open, carry, loose, draw, extend, promote, demote, dial, greet, refuse, answer_full, answer_cont, noted, go_on, ask_all, ask_on, take_full, take_cont, load, follow}
+use Rattle.mr_history.proofs.Moves.Move.{still, stop, leave, close, drop_open, carry, loose, draw, extend, promote, demote, connect, accept, greet, refuse, answer_full, answer_cont, noted, go_on, ask_all, ask_on, take_full, take_cont, load, follow}
 use Rattle.mr_history.proofs.Moves.Reaches.{by_moves}
 use Rattle.mr_history.proofs.Histories.{append_nil, all_back}
 use Rattle.mr_history.proofs.Fronts.{Keeps, some_is, at_unique, keeps_grows, history_is}
 use Rattle.mr_history.proofs.Keeping.{same_keeps, same_good, node_keeps, talk_keeps, true_false, none_some}
 use Rattle.mr_history.proofs.NodeMoves.{stop_keeps, leave_keeps, draw_keeps, promote_keeps, demote_keeps, set_keeps}
-use Rattle.mr_history.proofs.LinkMoves.{close_keeps, drop_keeps, carry_keeps, loose_keeps, greet_keeps, refuse_keeps, answer_full_keeps, answer_cont_keeps, noted_keeps}
+use Rattle.mr_history.proofs.LinkMoves.{close_keeps, drop_keeps, carry_keeps, loose_keeps, accept_keeps, greet_keeps, refuse_keeps, answer_full_keeps, answer_cont_keeps, noted_keeps}
 use Rattle.mr_history.proofs.FollowerMoves.{go_on_keeps, ask_all_keeps, ask_on_keeps, take_full_keeps, take_cont_keeps, load_keeps, follow_keeps}
-use Rattle.mr_history.proofs.Extend.{extend_keeps, dial_keeps, extends_grows}
+use Rattle.mr_history.proofs.Extend.{extend_keeps, connect_keeps, extends_grows}
 
 still_keeps : {L : Language} (w v : World L) → Invariant w → Same w.node v.node → Same w.link v.link → Same w.book v.book → Invariant v
 still_keeps {L} w v inv sn sl sb = record {
@@ -35,8 +35,9 @@ still_keeps {L} w v inv sn sl sb = record {
     link = o.link;
     found = sl f.link ∙ o.found;
     mine = o.mine;
-    talk = talk_keeps w v a a f.phase o.link o.link keeps refl refl refl (λ i. refl) refl refl (λ i post t s e' u' z. t s (sym (sn o.link.to) ∙ e') u' z) o.talk;
+    talk = talk_keeps w v a a f.phase o.link o.link keeps refl refl refl (λ i. refl) refl refl (λ i post t m s to e' u' z. t m s to (sym (sn m) ∙ e') u' z) o.talk;
   };
+  waiting = λ l k e q. inv.waiting l k (sym (sl l) ∙ e) q;
 }
   where
     keeps : Keeps L w.book v.book
@@ -46,15 +47,16 @@ pub move_keeps : {L : Language} (laws : Laws L) (w v : World L) → Invariant w 
 move_keeps laws w v inv (still sn sl sb) = still_keeps w v inv sn sl sb
 move_keeps laws w v inv (stop n a e sn sl sb) = stop_keeps w v n a inv e sn sl sb
 move_keeps laws w v inv (leave n a x h e sn sl sb) = leave_keeps w v n a x h inv e sn sl sb
-move_keeps laws w v inv (close f sn sl sb) = close_keeps w v f inv sn sl sb
-move_keeps laws w v inv (drop_open f sn sl sb) = drop_keeps w v f inv sn sl sb
-move_keeps laws w v inv (carry l x y k e sn sl sb) = carry_keeps w v l x y k inv e sn sl sb
-move_keeps laws w v inv (loose l k f sn sl sb) = loose_keeps w v l k inv f sn sl sb
+move_keeps laws w v inv (close f sn none sl sb) = close_keeps w v f inv sn none sl sb
+move_keeps laws w v inv (drop_open f sn none sl sb) = drop_keeps w v f inv sn none sl sb
+move_keeps laws w v inv (carry l x y k e wait sn sl sb) = carry_keeps w v l x y k inv e wait sn sl sb
+move_keeps laws w v inv (loose l k f wait sn sl sb) = loose_keeps w v l k inv f wait sn sl sb
 move_keeps laws w v inv (draw n b x1 x2 x3 x4 x5 x6 sn sl sb) = draw_keeps laws w v n b inv x1 x2 x3 x4 x5 x6 sn sl sb
-move_keeps laws w v inv (extend n a es m backlog h x1 x2 x3 x0 x4 x5 sn sl x6 sb) = extend_keeps laws w v n a es m backlog h inv x1 x2 x3 x0 x4 x5 sn sl x6 sb
+move_keeps laws w v inv (extend n a es m backlog h x1 x2 x3 x0 x4 x5 sn none sl x6 sb) = extend_keeps laws w v n a es m backlog h inv x1 x2 x3 x0 x4 x5 sn none sl x6 sb
 move_keeps laws w v inv (promote n i a st earlier later x1 x2 x3 x4 x5 sn sl x6 sb) = promote_keeps laws w v n i a st earlier later inv x1 x2 x3 x4 x5 sn sl x6 sb
 move_keeps laws w v inv (demote n a h x1 x2 x3 sn sl sb) = demote_keeps w v n a h inv x1 x2 x3 sn sl sb
-move_keeps laws w v inv (dial n s l a h h0 x1 x2 x3 x4 sn sl sb) = dial_keeps w v n s l a h h0 inv x1 x2 x3 x4 sn sl sb
+move_keeps laws w v inv (connect n l to a h h0 x1 x2 x3 x4 sn sl sb) = connect_keeps w v n l to a h h0 inv x1 x2 x3 x4 sn sl sb
+move_keeps laws w v inv (accept l m k x1 x2 sn sl sb) = accept_keeps w v l m k inv x1 x2 sn sl sb
 move_keeps laws w v inv (greet l k s t rest r x1 x2 x3 x4 x5 sn sl sb) = greet_keeps laws w v l k s t rest r inv x1 x2 x3 x4 x5 sn sl sb
 move_keeps laws w v inv (refuse l k s q t rest r x1 x2 x3 x4 x5 sn sl sb) = refuse_keeps laws w v l k s q t rest r inv x1 x2 x3 x4 x5 sn sl sb
 move_keeps laws w v inv (answer_full l k s q t rest x y x0 y0 x1 x2 x3 x4 x5 sn sl sb) = answer_full_keeps laws w v l k s q t rest x y x0 y0 inv x1 x2 x3 x4 x5 sn sl sb
@@ -74,17 +76,18 @@ same_grows {L} w v sb = keeps_grows L w.book v.book (same_keeps L w.book v.book 
 -- the book only grows
 pub move_grows : {L : Language} (laws : Laws L) (w v : World L) → Move w v → Grows L w.book v.book
 move_grows {L} laws w v (draw n b x1 x2 x3 x4 x5 x6 sn sl sb) = keeps_grows L w.book v.book (set_keeps L laws w.book v.book b.id _ x1 sb)
-move_grows {L} laws w v (extend n a es m backlog h x1 x2 x3 x0 x4 x5 sn sl x6 sb) = extends_grows L laws w.book v.book a.id es h (record { was = x6; is = sb.0; others = sb.1 })
+move_grows {L} laws w v (extend n a es m backlog h x1 x2 x3 x0 x4 x5 sn none sl x6 sb) = extends_grows L laws w.book v.book a.id es h (record { was = x6; is = sb.0; others = sb.1 })
 move_grows {L} laws w v (promote n i a st earlier later x1 x2 x3 x4 x5 sn sl x6 sb) = keeps_grows L w.book v.book (set_keeps L laws w.book v.book i _ x5 sb)
 move_grows laws w v (still sn sl sb) = same_grows w v sb
 move_grows laws w v (stop n a e sn sl sb) = same_grows w v sb
 move_grows laws w v (leave n a x h e sn sl sb) = same_grows w v sb
-move_grows laws w v (close f sn sl sb) = same_grows w v sb
-move_grows laws w v (drop_open f sn sl sb) = same_grows w v sb
-move_grows laws w v (carry l x y k e sn sl sb) = same_grows w v sb
-move_grows laws w v (loose l k f sn sl sb) = same_grows w v sb
+move_grows laws w v (close f sn none sl sb) = same_grows w v sb
+move_grows laws w v (drop_open f sn none sl sb) = same_grows w v sb
+move_grows laws w v (carry l x y k e wait sn sl sb) = same_grows w v sb
+move_grows laws w v (loose l k f wait sn sl sb) = same_grows w v sb
 move_grows laws w v (demote n a h x1 x2 x3 sn sl sb) = same_grows w v sb
-move_grows laws w v (dial n s l a h h0 x1 x2 x3 x4 sn sl sb) = same_grows w v sb
+move_grows laws w v (connect n l to a h h0 x1 x2 x3 x4 sn sl sb) = same_grows w v sb
+move_grows laws w v (accept l m k x1 x2 sn sl sb) = same_grows w v sb
 move_grows laws w v (greet l k s t rest r x1 x2 x3 x4 x5 sn sl sb) = same_grows w v sb
 move_grows laws w v (refuse l k s q t rest r x1 x2 x3 x4 x5 sn sl sb) = same_grows w v sb
 move_grows laws w v (answer_full l k s q t rest x y x0 y0 x1 x2 x3 x4 x5 sn sl sb) = same_grows w v sb
@@ -119,6 +122,7 @@ nowhere_ok L = record {
   nodes = λ n a e. none_some None a refl e;
   masters = λ n m a b e. none_some None a refl e;
   links = λ n a f e. none_some None a refl e;
+  waiting = λ l k e. none_some None k refl e;
 }
 
 pub inv_true : {L : Language} (w : World L) → Invariant w → (n : ℕ) (i : L.Id) (o : ℕ) (m : L.Dataset) → Shows w n i o m → IsAt L w.book i o m
@@ -139,7 +143,7 @@ caught_up {L} laws w l a s inv c =
     ok = inv.nodes c.n a c.replica_found c.replica_up
 
     master_ok : NodeIsSound w.book s
-    master_ok = inv.nodes c.link.to s c.master_found c.master_up
+    master_ok = inv.nodes c.m s c.master_found c.master_up
 
     same_held : a.id ≡ s.id → a.offset ≡ s.offset → a.held ≡ s.held
     same_held ei eo = at_unique L laws w.book s.id s.offset a.held s.held
@@ -153,7 +157,7 @@ caught_up {L} laws w l a s inv c =
     level : (mid : List L.Effect) (st : L.Dataset) (earlier post : List L.Effect) → Front L w.book a.id a.offset st earlier (mid ++ post) → AtTip w c.link a.id post
         → c.link.tell.left ≡ texts L mid → Stream ≡ c.phase → (a.id ≡ s.id) × (a.offset ≡ s.offset)
     level [] st earlier post f tip e q =
-        let r = tip s c.master_found c.master_up c.serving in
+        let r = tip c.m s c.to c.master_found c.master_up c.serving in
         let h = history_is L w.book s.id _ _ (ap (λ z. w.book z) r.1 ∙ f.found) master_ok.front.found in
         let p : earlier ≡ master_ok.earlier = sym (append_nil earlier) ∙ (ap (λ z. earlier ++ z) (sym r.2) ∙ (h.1 ∙ (ap (λ z. master_ok.earlier ++ z) (master_ok.tip r.0) ∙ append_nil master_ok.earlier))) in
         (sym r.1, sym f.place ∙ (ap (λ z. length (texts L z)) p ∙ master_ok.front.place))

@@ -1,10 +1,10 @@
 -- The changes that the rows of several events share.
-use Rattle.std.specs.Prelude.{ℕ, List, ◌++◌, ◌+◌, ◌-◌, ◌≤◌, ◌≡◌, None, Some, true, false, length, drop, All, ◌==◌}
+use Rattle.std.specs.Prelude.{ℕ, List, ◌++◌, ◌+◌, ◌-◌, ◌≤◌, ◌≡◌, None, Some, true, false, length, drop, All}
 use Rattle.mr_history.specs.Language.{Language}
 use Rattle.mr_history.specs.Changes.{SetAt, Same}
 use Rattle.mr_history.specs.History.{Extends, texts, fold}
 use Rattle.mr_history.specs.Node.{Node, EndsAs}
-use Rattle.mr_history.specs.World.{Way, Link, World, unread, dropped}
+use Rattle.mr_history.specs.World.{Way, Link, World, unread, is_to, dropped}
 
 -- nothing changes
 pub record Still {L : Language} (w v : World L) : Type 0 where
@@ -32,7 +32,7 @@ pub record Stops {L : Language} (w v : World L) (n : ℕ) (a : Node L) : Type 0 
   pub role : wreck.starts_as_master ≡ a.starts_as_master
   pub nodes : SetAt w.node v.node n wreck
   pub no_links : (l : ℕ) → w.link l ≡ None → v.link l ≡ None
-  pub links : (l : ℕ) (k : Link) → w.link l ≡ Some k → v.link l ≡ Some (dropped (k.to == n) k)
+  pub links : (l : ℕ) (k : Link) → w.link l ≡ Some k → v.link l ≡ Some (dropped (is_to n k.to) k)
   pub book : Same w.book v.book
 
 -- At a node that runs the event acts; at one that stopped nothing changes.

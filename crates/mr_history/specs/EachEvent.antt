@@ -11,7 +11,7 @@ use Rattle.mr_history.specs.World.{Link, World, unread, no_bytes}
 use Rattle.mr_history.specs.Event.{Event}
 use Rattle.mr_history.specs.ServerRows.{Uses, ServerRow}
 use Rattle.mr_history.specs.FollowerRows.{Usable, FollowerRow}
-use Rattle.mr_history.specs.Rows.{RestartRow, DialRow, Row}
+use Rattle.mr_history.specs.Rows.{RestartRow, Connects, DialRow, ConnectRow, AcceptRow, Row}
 
 -- The book stays, or a node that starts draws its id, or a running master extends its own id, or a replica that is promoted
 -- branches at its offset. So neither a replica nor who follows it books anything.
@@ -76,8 +76,8 @@ pub record Answered {L : Language} (w v : World L) (s : Node L) (k k' : Link) : 
   pub answer : Answer s query bytes
 
 abbrev pub AnswersAreOfOneMoment : Language → Type 0
-AnswersAreOfOneMoment L = (w v : World L) (l : ℕ) (k k' : Link) (s : Node L) (given : L.Given) (fresh : L.Id) → w.link l ≡ Some k
-    → ServerRow w v l k s given fresh → k.streams ≡ false → v.link l ≡ Some k' → k'.streams ≡ true → Answered w v s k k'
+AnswersAreOfOneMoment L = (w v : World L) (n l : ℕ) (k k' : Link) (s : Node L) (given : L.Given) (fresh : L.Id) → w.link l ≡ Some k
+    → ServerRow w v n l k s given fresh → k.streams ≡ false → v.link l ≡ Some k' → k'.streams ≡ true → Answered w v s k k'
 
 -- A replica that has something to continue asks, by the last line of its handshake, for the byte after its last one.
 abbrev pub AsksFromWhereItStands : Language → Type 0
@@ -92,7 +92,24 @@ StreamsAreFollowed L = (w v : World L) (n l : ℕ) (a b : Node L) (k : Link) →
     → a.offset + length (L.text e) ≤ L.limit → unread k.tell ++ more ≡ L.text e ++ rest
     → v.node n ≡ Some b → b.up ≡ true → b.follow ≡ Some (record { link = l; phase = Stream })
 
+-- A replica opens its end of a link, which a node accepts at once or which waits for one.
+pub data OpensAnEnd {L : Language} (w v : World L) (n : ℕ) : Type 0 where
+  dials : (s : ℕ) → DialRow w n s v → OpensAnEnd w v n
+  connects : ConnectRow w n v → OpensAnEnd w v n
+
 -- On a link that a replica has just dialled nothing was sent to it: what an earlier link left unread is gone.
 abbrev pub DialledLinksAreEmpty : Language → Type 0
-DialledLinksAreEmpty L = (w v : World L) (n s : ℕ) → DialRow w n s v → (b : Node L) (f : Follow L.Id) (k : Link) → v.node n ≡ Some b → b.up ≡ true
+DialledLinksAreEmpty L = (w v : World L) (n : ℕ) → OpensAnEnd w v n → (b : Node L) (f : Follow L.Id) (k : Link) → v.node n ≡ Some b → b.up ≡ true
     → b.follow ≡ Some f → v.link f.link ≡ Some k → k.tell ≡ no_bytes
+
+-- Between the two worlds there is one in which the link of this number waits.
+pub record InTwoEvents {L : Language} (w v : World L) (n s : ℕ) : Type 0 where
+  pub between : World L
+  pub link : ℕ
+  pub connect : ConnectRow w n between
+  pub accept : AcceptRow between link s v
+
+-- A dial by which a link comes is a connect and then an accept: the replica's end opens first, and then that of the node dialled.
+abbrev pub DialIsConnectAndAccept : Language → Type 0
+DialIsConnectAndAccept L = (w v : World L) (n s : ℕ) (row : DialRow w n s v) → row.node.up ≡ true → row.server.up ≡ true
+    → Connects w v n (Some s) row.node → InTwoEvents w v n s

@@ -6,7 +6,7 @@ use Rattle.mr_history.specs.Language.Request.{Handshake, Psync}
 use Rattle.mr_history.specs.History.{Book, History, IsAt, Front, Agree, texts, fold}
 use Rattle.mr_history.specs.Node.{Phase, Follow, Node}
 use Rattle.mr_history.specs.Node.Phase.{Greet, Asked, Loading, Stream}
-use Rattle.mr_history.specs.World.{Link, World, IsPlain}
+use Rattle.mr_history.specs.World.{Link, World, IsPlain, IsUntouched}
 use Rattle.mr_history.specs.World.Caller.{Peer}
 
 -- one snapshot, and what it loads
@@ -48,7 +48,7 @@ pub record NodeIsSound {L : Language} (book : Book L) (a : Node L) : Type 0 wher
 
 -- While the server streams to this link, it is the one that may extend i, and what it sent ends where i ends.
 abbrev pub AtTip : {L : Language} → World L → Link → L.Id → List L.Effect → Type 0
-AtTip {L} w k i post = (s : Node L) → w.node k.to ≡ Some s → s.up ≡ true → k.serving ≡ true → (s.master ≡ true) × (s.id ≡ i) × (post ≡ [])
+AtTip {L} w k i post = (n : ℕ) (s : Node L) → k.to ≡ Some n → w.node n ≡ Some s → s.up ≡ true → k.serving ≡ true → (s.master ≡ true) × (s.id ≡ i) × (post ≡ [])
 
 -- These bytes on the link are the stream of i from o.
 pub record Flow {L : Language} (w : World L) (k : Link) (i : L.Id) (o : ℕ) (bytes : List ℕ) : Type 0 where
@@ -94,3 +94,5 @@ pub record Invariant {L : Language} (w : World L) : Type 0 where
   pub masters : (n m : ℕ) (a b : Node L) → w.node n ≡ Some a → w.node m ≡ Some b → a.up ≡ true → b.up ≡ true
       → a.master ≡ true → b.master ≡ true → a.id ≡ b.id → n ≡ m
   pub links : (n : ℕ) (a : Node L) (f : Follow L.Id) → w.node n ≡ Some a → a.up ≡ true → a.follow ≡ Some f → LinkIsSound w n a f
+  -- a link that nobody has accepted is as who asked for it made it
+  pub waiting : (l : ℕ) (k : Link) → w.link l ≡ Some k → k.to ≡ None → IsUntouched k

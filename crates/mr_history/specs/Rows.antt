@@ -1,12 +1,12 @@
 -- The row of each event: what it changes, and nothing else. An event that a world refuses has no row.
-use Rattle.std.specs.Prelude.{ℕ, List, [], ◌++◌, ◌+◌, ◌-◌, ◌≤◌, ◌≡◌, ◌≢◌, ◌⊎◌, None, Some, Bool, true, false, length, ◌==◌}
+use Rattle.std.specs.Prelude.{ℕ, List, [], ◌++◌, ◌+◌, ◌-◌, ◌≤◌, ◌≡◌, ◌≢◌, ◌⊎◌, Option, None, Some, Bool, true, false, is_some, length}
 use Rattle.mr_history.specs.Language.{Language}
 use Rattle.mr_history.specs.Language.Request.{Handshake}
 use Rattle.mr_history.specs.Changes.{SetAt, Same}
 use Rattle.mr_history.specs.History.{Draws, texts}
 use Rattle.mr_history.specs.Node.{Phase, Node, at_phase}
 use Rattle.mr_history.specs.Node.Phase.{Greet, Stream}
-use Rattle.mr_history.specs.World.{Caller, Link, Way, World, hears, no_bytes, shut, told_if}
+use Rattle.mr_history.specs.World.{Caller, Link, Way, World, is_to, hears, accepted, no_bytes, shut, told_if}
 use Rattle.mr_history.specs.World.Caller.{Client, Peer}
 use Rattle.mr_history.specs.Event.{Event}
 use Rattle.mr_history.specs.Event.Side.{Server, Dialler}
@@ -30,12 +30,12 @@ fresh_node L i master m = record {
   starts_as_master = master;
 }
 
--- a link before its first step
-abbrev pub fresh_link : Caller → ℕ → List ℕ → Link
+-- a link before its first step, which a node serves or which waits for one to accept it
+abbrev pub fresh_link : Caller → Option ℕ → List ℕ → Link
 fresh_link caller to bytes = record {
   caller = caller;
   to = to;
-  serving = true;
+  serving = is_some to;
   streams = false;
   ask = record { left = bytes; taken = 0 };
   tell = no_bytes;
@@ -46,7 +46,7 @@ fresh_link caller to bytes = record {
 pub record StartRow {L : Language} (w : World L) (i : L.Id) (master : Bool) (v : World L) : Type 0 where
   pub node : ℕ
   pub new_node : w.node node ≡ None
-  pub unnamed : (l : ℕ) (k : Link) → w.link l ≡ Some k → k.to ≢ node
+  pub unnamed : (l : ℕ) (k : Link) → w.link l ≡ Some k → k.to ≢ Some node
   pub nodes : SetAt w.node v.node node (fresh_node L i master L.empty)
   pub links : Same w.link v.link
   pub book : Draws L w.book v.book i L.empty
@@ -59,12 +59,12 @@ pub record RestartRow {L : Language} (w : World L) (n : ℕ) (file : List ℕ) (
   pub restored : L.restores file held
   pub nodes : SetAt w.node v.node n (fresh_node L i old.starts_as_master held)
   pub no_links : (l : ℕ) → w.link l ≡ None → v.link l ≡ None
-  pub links : (l : ℕ) (k : Link) → w.link l ≡ Some k → v.link l ≡ Some (shut (k.to == n) k)
+  pub links : (l : ℕ) (k : Link) → w.link l ≡ Some k → v.link l ≡ Some (shut (is_to n k.to) k)
   pub book : Draws L w.book v.book i held
 
 -- A client's link is there, or the node stops for want of names for links.
 pub data Opens {L : Language} (w v : World L) (n : ℕ) (a : Node L) : Type 0 where
-  opens : (l : ℕ) → w.link l ≡ None → LinkBecomes w v l (fresh_link (Client true) n []) → Opens w v n a
+  opens : (l : ℕ) → w.link l ≡ None → LinkBecomes w v l (fresh_link (Client true) (Some n) []) → Opens w v n a
   stops : Stops w v n a → Opens w v n a
 
 pub record ClientRow {L : Language} (w : World L) (n : ℕ) (v : World L) : Type 0 where
@@ -72,19 +72,19 @@ pub record ClientRow {L : Language} (w : World L) (n : ℕ) (v : World L) : Type
   pub found : w.node n ≡ Some node
   pub does : Unless w v node (Opens w v n node)
 
--- A link from the node n to the node s is there, with the first line of the handshake.
-pub record Connects {L : Language} (w v : World L) (n s : ℕ) (a : Node L) : Type 0 where
+-- A link from the node n is there, with the first line of the handshake: to this node, or to none yet.
+pub record Connects {L : Language} (w v : World L) (n : ℕ) (to : Option ℕ) (a : Node L) : Type 0 where
   pub link : ℕ
   pub new_link : w.link link ≡ None
   pub request : List ℕ
   pub asks : L.asks None request Handshake
   pub nodes : SetAt w.node v.node n (at_phase a link (Greet 0))
-  pub links : SetAt w.link v.link link (fresh_link (Peer n) s request)
+  pub links : SetAt w.link v.link link (fresh_link (Peer n) to request)
   pub book : Same w.book v.book
 
 -- A replica, a, dials a node, b. Either may stop, b for want of names for links.
 pub data Dials {L : Language} (w v : World L) (n s : ℕ) (a b : Node L) : Type 0 where
-  connects : Connects w v n s a → Dials w v n s a b
+  connects : Connects w v n (Some s) a → Dials w v n s a b
   stops : Stops w v n a → Dials w v n s a b
   server_stops : Stops w v s b → Dials w v n s a b
 
@@ -92,11 +92,38 @@ pub data Dials {L : Language} (w v : World L) (n s : ℕ) (a b : Node L) : Type 
 pub record DialRow {L : Language} (w : World L) (n s : ℕ) (v : World L) : Type 0 where
   pub node : Node L
   pub found : w.node n ≡ Some node
-  pub replica : node.master ≡ false
+  pub replica : node.master ≡ false  -- a master dials nobody
   pub waiting : node.follow ≡ None
   pub server : Node L
   pub server_found : w.node s ≡ Some server
   pub does : Unless w v node (Unless w v server (Dials w v n s node server))
+
+-- A replica, a, opens its end of a link, which nobody serves yet. It may stop.
+pub data Calls {L : Language} (w v : World L) (n : ℕ) (a : Node L) : Type 0 where
+  connects : Connects w v n None a → Calls w v n a
+  stops : Stops w v n a → Calls w v n a
+
+-- A replica without a link to a master opens its end of one. Where it has stopped nothing changes.
+pub record ConnectRow {L : Language} (w : World L) (n : ℕ) (v : World L) : Type 0 where
+  pub node : Node L
+  pub found : w.node n ≡ Some node
+  pub replica : node.master ≡ false  -- a master has nobody to follow
+  pub waiting : node.follow ≡ None
+  pub does : Unless w v node (Calls w v n node)
+
+-- The node m, which is b, opens its end of the link l, which is k, or it stops for want of names for links.
+pub data Accepts {L : Language} (w v : World L) (l m : ℕ) (k : Link) (b : Node L) : Type 0 where
+  accepts : LinkBecomes w v l (accepted m k) → Accepts w v l m k b
+  stops : Stops w v m b → Accepts w v l m k b
+
+-- A node accepts a link that waits, whether the end of who asked for it is still open or not, and be it its own.
+pub record AcceptRow {L : Language} (w : World L) (l m : ℕ) (v : World L) : Type 0 where
+  pub link : Link
+  pub found : w.link l ≡ Some link
+  pub waiting : link.to ≡ None
+  pub node : Node L
+  pub node_found : w.node m ≡ Some node
+  pub does : Unless w v node (Accepts w v l m link node)
 
 -- A client whose end is open sends more.
 pub record CommandRow {L : Language} (w : World L) (l : ℕ) (bytes : List ℕ) (v : World L) : Type 0 where
@@ -113,9 +140,11 @@ more n way = record way { taken = way.taken + n }
 pub record ServerEnd {L : Language} (w : World L) (l : ℕ) : Type 0 where
   pub link : Link
   pub found : w.link l ≡ Some link
+  pub n : ℕ
+  pub to : link.to ≡ Some n
   pub serving : link.serving ≡ true
   pub node : Node L
-  pub node_found : w.node link.to ≡ Some node
+  pub node_found : w.node n ≡ Some node
 
 pub record ReplicaEnd {L : Language} (w : World L) (l : ℕ) : Type 0 where
   pub link : Link
@@ -148,7 +177,7 @@ pub record DeliverToClient {L : Language} (w : World L) (l n : ℕ) (v : World L
 
 pub record StepOfServer {L : Language} (w : World L) (l : ℕ) (given : L.Given) (fresh : L.Id) (v : World L) : Type 0 where
   pub at : ServerEnd w l
-  pub does : Unless w v at.node (ServerRow w v l at.link at.node given fresh)
+  pub does : Unless w v at.node (ServerRow w v at.n l at.link at.node given fresh)
 
 pub record StepOfReplica {L : Language} (w : World L) (l : ℕ) (v : World L) : Type 0 where
   pub at : ReplicaEnd w l
@@ -202,6 +231,8 @@ Row w (Event.Start i master) v = StartRow w i master v
 Row w (Event.Restart n file i) v = RestartRow w n file i v
 Row w (Event.Client n) v = ClientRow w n v
 Row w (Event.Dial n s) v = DialRow w n s v
+Row w (Event.Connect n) v = ConnectRow w n v
+Row w (Event.Accept l m) v = AcceptRow w l m v
 Row w (Event.Command l bytes) v = CommandRow w l bytes v
 Row w (Event.Deliver l Server n) v = DeliverToServer w l n v
 Row w (Event.Deliver l Dialler n) v = DeliverToReplica w l n v ⊎ DeliverToClient w l n v

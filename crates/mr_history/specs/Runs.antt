@@ -33,7 +33,9 @@ pub record CaughtUp {L : Language} (w : World L) (l : ℕ) (replica master : Nod
   pub replica_up : replica.up ≡ true
   pub phase : Phase L.Id
   pub follow : replica.follow ≡ Some (record { link = l; phase = phase })
-  pub master_found : w.node link.to ≡ Some master
+  pub m : ℕ
+  pub to : link.to ≡ Some m
+  pub master_found : w.node m ≡ Some master
   pub master_up : master.up ≡ true
   pub serving : link.serving ≡ true
   pub streams : link.streams ≡ true

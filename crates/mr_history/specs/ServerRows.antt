@@ -150,19 +150,19 @@ pub record PassesLimit {L : Language} (w v : World L) (l : ℕ) (k : Link) (s : 
 
 -- A master applies a command's effects, puts them behind its stream, and sends them to every replica in its stream phase. One
 -- that waits for the end of its transaction has none, and the end has those of all that waited.
-pub record Runs {L : Language} (w v : World L) (l : ℕ) (k : Link) (s : Node L) (given : L.Given) : Type 0 where
+pub record Runs {L : Language} (w v : World L) (n l : ℕ) (k : Link) (s : Node L) (given : L.Given) : Type 0 where
   pub client : k.streams ≡ false
   pub master : s.master ≡ true
   pub uses : Uses L k Command
   pub effects : List L.Effect
   pub of_request : L.effects (L.limit - s.offset) k.transaction uses.text s.held given effects
-  pub grown : Grown w v k.to s effects
+  pub grown : Grown w v n s effects
   pub transaction : Option Transaction
   pub leads : L.leads true k.transaction uses.text transaction
   pub reply : List ℕ
   pub link : v.link l ≡ Some (concluded k uses.left reply transaction)
   pub no_links : (j : ℕ) → j ≢ l → w.link j ≡ None → v.link j ≡ None
-  pub links : (j : ℕ) (x : Link) → j ≢ l → w.link j ≡ Some x → v.link j ≡ Some (told_if (hears k.to x) x (texts L effects))
+  pub links : (j : ℕ) (x : Link) → j ≢ l → w.link j ≡ Some x → v.link j ≡ Some (told_if (hears n x) x (texts L effects))
 
 -- A client that asks for it is told so, and the end closes.
 pub record Quits {L : Language} (w v : World L) (l : ℕ) (k : Link) : Type 0 where
@@ -172,57 +172,57 @@ pub record Quits {L : Language} (w v : World L) (l : ℕ) (k : Link) : Type 0 wh
   pub becomes : LinkBecomes w v l (shut true (told k reply))
 
 -- REPLICAOF NO ONE on a replica: it leaves its master and follows no host, and its stream goes on under the fresh id.
-pub record Promotes {L : Language} (w v : World L) (l : ℕ) (k : Link) (s : Node L) (fresh : L.Id) : Type 0 where
+pub record Promotes {L : Language} (w v : World L) (n l : ℕ) (k : Link) (s : Node L) (fresh : L.Id) : Type 0 where
   pub client : k.streams ≡ false
   pub replica : s.master ≡ false
   pub uses : Uses L k ReplicaOfNoOne
-  pub nodes : SetAt w.node v.node k.to (record s { follow = None; offers = true; upstream = []; master = true; id = fresh; second = Some (s.id, s.offset + 1) })
+  pub nodes : SetAt w.node v.node n (record s { follow = None; offers = true; upstream = []; master = true; id = fresh; second = Some (s.id, s.offset + 1) })
   pub reply : List ℕ
   pub links : SetAt w.link v.link l (answered k uses.left reply)
   pub book : Branches L w.book v.book fresh s.id s.offset
 
 -- REPLICAOF a host on a master: it closes the links of its replicas, and offers its own id and offset.
-pub record Demotes {L : Language} (w v : World L) (l : ℕ) (k : Link) (s : Node L) : Type 0 where
+pub record Demotes {L : Language} (w v : World L) (n l : ℕ) (k : Link) (s : Node L) : Type 0 where
   pub client : k.streams ≡ false
   pub master : s.master ≡ true
   pub host : List ℕ
   pub uses : Uses L k (ReplicaOf host)
-  pub nodes : SetAt w.node v.node k.to (record s { master = false; offers = true; upstream = host })
+  pub nodes : SetAt w.node v.node n (record s { master = false; offers = true; upstream = host })
   pub reply : List ℕ
   pub link : v.link l ≡ Some (answered k uses.left reply)
   pub no_links : (j : ℕ) → j ≢ l → w.link j ≡ None → v.link j ≡ None
-  pub links : (j : ℕ) (x : Link) → j ≢ l → w.link j ≡ Some x → v.link j ≡ Some (shut (hears k.to x) x)
+  pub links : (j : ℕ) (x : Link) → j ≢ l → w.link j ≡ Some x → v.link j ≡ Some (shut (hears n x) x)
   pub book : Same w.book v.book
 
 -- REPLICAOF another host on a replica: it leaves its master.
-pub record Turns {L : Language} (w v : World L) (l : ℕ) (k : Link) (s : Node L) : Type 0 where
+pub record Turns {L : Language} (w v : World L) (n l : ℕ) (k : Link) (s : Node L) : Type 0 where
   pub client : k.streams ≡ false
   pub replica : s.master ≡ false
   pub host : List ℕ
   pub another : s.upstream ≢ host
   pub uses : Uses L k (ReplicaOf host)
-  pub nodes : SetAt w.node v.node k.to (record s { follow = None; upstream = host })
+  pub nodes : SetAt w.node v.node n (record s { follow = None; upstream = host })
   pub reply : List ℕ
   pub links : SetAt w.link v.link l (answered k uses.left reply)
   pub book : Same w.book v.book
 
--- a step at the end of link l, which is k, at the node s
-pub data ServerRow {L : Language} (w v : World L) (l : ℕ) (k : Link) (s : Node L) (given : L.Given) (fresh : L.Id) : Type 0 where
-  idles : Idles w v k → ServerRow w v l k s given fresh
-  stops : Stops w v k.to s → ServerRow w v l k s given fresh
-  notes : Notes w v l k → ServerRow w v l k s given fresh
-  shuts : Shuts w v l k → ServerRow w v l k s given fresh
-  skips : Skips w v l k → ServerRow w v l k s given fresh
-  faults : Faults w v l k → ServerRow w v l k s given fresh
-  greets : Greets w v l k → ServerRow w v l k s given fresh
-  refuses : Refuses w v l k s → ServerRow w v l k s given fresh
-  resynchronizes : Resynchronizes w v l k s → ServerRow w v l k s given fresh
-  goes_on : GoesOn w v l k s → ServerRow w v l k s given fresh
-  replies : Replies w v l k s → ServerRow w v l k s given fresh
-  answers : Answers w v l k s → ServerRow w v l k s given fresh
-  passes_limit : PassesLimit w v l k s given → ServerRow w v l k s given fresh
-  runs : Runs w v l k s given → ServerRow w v l k s given fresh
-  quits : Quits w v l k → ServerRow w v l k s given fresh
-  promotes : Promotes w v l k s fresh → ServerRow w v l k s given fresh
-  demotes : Demotes w v l k s → ServerRow w v l k s given fresh
-  turns : Turns w v l k s → ServerRow w v l k s given fresh
+-- a step of the node n, which is s, at its end of the link l, which is k
+pub data ServerRow {L : Language} (w v : World L) (n l : ℕ) (k : Link) (s : Node L) (given : L.Given) (fresh : L.Id) : Type 0 where
+  idles : Idles w v k → ServerRow w v n l k s given fresh
+  stops : Stops w v n s → ServerRow w v n l k s given fresh
+  notes : Notes w v l k → ServerRow w v n l k s given fresh
+  shuts : Shuts w v l k → ServerRow w v n l k s given fresh
+  skips : Skips w v l k → ServerRow w v n l k s given fresh
+  faults : Faults w v l k → ServerRow w v n l k s given fresh
+  greets : Greets w v l k → ServerRow w v n l k s given fresh
+  refuses : Refuses w v l k s → ServerRow w v n l k s given fresh
+  resynchronizes : Resynchronizes w v l k s → ServerRow w v n l k s given fresh
+  goes_on : GoesOn w v l k s → ServerRow w v n l k s given fresh
+  replies : Replies w v l k s → ServerRow w v n l k s given fresh
+  answers : Answers w v l k s → ServerRow w v n l k s given fresh
+  passes_limit : PassesLimit w v l k s given → ServerRow w v n l k s given fresh
+  runs : Runs w v n l k s given → ServerRow w v n l k s given fresh
+  quits : Quits w v l k → ServerRow w v n l k s given fresh
+  promotes : Promotes w v n l k s fresh → ServerRow w v n l k s given fresh
+  demotes : Demotes w v n l k s → ServerRow w v n l k s given fresh
+  turns : Turns w v n l k s → ServerRow w v n l k s given fresh

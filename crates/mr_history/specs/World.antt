@@ -22,7 +22,7 @@ pub data Caller : Type 0 where
 
 pub record Link : Type 0 where
   pub caller : Caller
-  pub to : ℕ  -- the node that serves
+  pub to : Option ℕ  -- the node that serves, none while the link waits for a node to accept it
   pub serving : Bool  -- the server's end is open
   pub streams : Bool  -- the server has answered PSYNC by CONTINUE or FULLRESYNC
   pub ask : Way  -- to the server
@@ -38,9 +38,26 @@ pub record World (L : Language) : Type 0 where
 abbrev pub IsPlain : Link → Type 0
 IsPlain k = (k.streams ≡ false) × (k.transaction ≡ None)
 
+-- Nobody has accepted the link yet: of what was sent nothing was taken, and nothing was sent to who asked for it.
+pub record IsUntouched (k : Link) : Type 0 where
+  pub serving : k.serving ≡ false
+  pub streams : k.streams ≡ false
+  pub ask : k.ask.taken ≡ 0
+  pub tell : k.tell ≡ no_bytes
+  pub transaction : k.transaction ≡ None
+
+-- whether it is node n that serves
+abbrev pub is_to : ℕ → Option ℕ → Bool
+is_to n None = false
+is_to n (Some m) = m == n
+
 -- the link carries the stream of node n
 abbrev pub hears : ℕ → Link → Bool
-hears n k = (k.to == n) && (k.serving && k.streams)
+hears n k = is_to n k.to && (k.serving && k.streams)
+
+-- node n opens its end of a link that waits, and finds what was sent
+abbrev pub accepted : ℕ → Link → Link
+accepted n k = record k { to = Some n; serving = true }
 
 -- what is open on the link is dropped
 abbrev pub dropped : Bool → Link → Link

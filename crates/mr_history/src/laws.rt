@@ -4,6 +4,7 @@ ghost use Rattle.mr_history.specs.EachEvent.{
   AnswersAreOfOneMoment,
   AsksFromWhereItStands,
   BookChangesByThreeWays,
+  DialIsConnectAndAccept,
   DialledLinksAreEmpty,
   MastersTakeNewIds,
   PartsChangeNothing,
@@ -94,7 +95,14 @@ pub fn streams_are_followed<R: Replicated>()
     ensures { StreamsAreFollowed R.language }
 {}
 
-/// On a link that a replica has just dialled nothing was sent to it: what a broken link left half-read is gone.
+/// On a link whose end a replica has just opened, with its server's end or before it, nothing was sent to it: what a broken link left
+/// half-read is gone.
 pub fn dialled_links_are_empty<R: Replicated>()
     ensures { DialledLinksAreEmpty R.language }
+{}
+
+/// A dial by which a link comes is two events, one after the other: the replica's end opens, and then the node that was dialled accepts
+/// the link. Between them there is a world in which the link waits.
+pub fn dial_is_connect_and_accept<R: Replicated>()
+    ensures { DialIsConnectAndAccept R.language }
 {}
