@@ -19,7 +19,7 @@ use Rattle.mr_history.specs.Event.Side.{Server, Dialler}
 use Rattle.mr_history_example.specs.Tiny.{tiny, Said}
 use Rattle.mr_history_example.specs.Story.{nodes, links, ids, events, moments, EndsLevel, node0_0, history0_0, node1_0, link0_0, node1_1, link1_0, link1_1, link1_2, link1_3, node1_2, node1_3, node1_4, link1_4, link1_5, link1_6, link1_7, node1_5, link1_8, node1_6, link1_9, link0_1, link0_2, link0_3, link1_10, node0_1, link1_11, node1_7, link2_0, link2_1, link2_2, node1_8, link2_3, history2_0, link2_4, link2_5, link2_6, node1_9, link0_4, link0_5, link0_6, link1_12, node0_2, node0_3, link3_0, link3_1, link3_2, link3_3, node0_4, node0_5, node0_6, link3_4, link3_5, link3_6, link3_7, node0_7, link3_8, link3_9, moment_1, moment_2, moment_3, moment_4, moment_5, moment_6, moment_7, moment_8, moment_9, moment_10, moment_11, moment_12, moment_13, moment_14, moment_15, moment_16, moment_17, moment_18, moment_19, moment_20, moment_21, moment_22, moment_23, moment_24, moment_25, moment_26, moment_27, moment_28, moment_29, moment_30, moment_31, moment_32, moment_33, moment_34, moment_35, moment_36, moment_37, moment_38, moment_39, moment_40, moment_41, moment_42, moment_43, moment_44, moment_45, moment_46, moment_47, moment_48, moment_49, moment_50, moment_51, moment_52, moment_53, moment_54}
 
-some_is : {A : Type 0} (x y : A) → Some x ≡ Some y → x ≡ y
+pub some_is : {A : Type 0} (x y : A) → Some x ≡ Some y → x ≡ y
 some_is x y e = cc
 
 pub none_some : {A P : Type 0} (o : Option A) (x : A) → o ≡ None → o ≡ Some x → P
@@ -193,10 +193,10 @@ step_4 : Row (moment_3) (Event.Dial 1 0) moment_4
 step_4 = record { node = node1_0; found = refl; replica = refl; waiting = refl; server = node0_0; server_found = refl; does = Unless.acts refl (Unless.acts refl (Dials.connects (record { link = 1; new_link = refl; request = 6 ∷ []; asks = (Said.Asks Handshake, refl, refl); nodes = set_node_1 _ _ _; links = set_link_1 _ _ _ _ _; book = λ m. refl }))) }
 
 step_5 : Row (moment_4) (Event.Deliver 1 Server 1) moment_5
-step_5 = record { at = record { link = link1_0; found = refl; serving = refl; node = node0_0; node_found = refl }; sent = let h : 1 ≤ 1 = omega arith in h; does = Unless.acts refl (record { nodes = λ m. refl; links = set_link_1 _ _ _ _ _; book = λ m. refl }) }
+step_5 = record { at = record { link = link1_0; found = refl; n = 0; to = refl; serving = refl; node = node0_0; node_found = refl }; sent = let h : 1 ≤ 1 = omega arith in h; does = Unless.acts refl (record { nodes = λ m. refl; links = set_link_1 _ _ _ _ _; book = λ m. refl }) }
 
 step_6 : Row (moment_5) (Event.Step 1 Server tt 2) moment_6
-step_6 = record { at = record { link = link1_1; found = refl; serving = refl; node = node0_0; node_found = refl }; does = Unless.acts refl (ServerRow.greets (record { client = refl; uses = record { text = 6 ∷ []; asks = (Said.Asks Handshake, refl, refl); left = record { left = []; taken = 0 }; reads = record { rest = []; begins = refl; new_is = refl } }; reply = 4 ∷ []; plain = refl; becomes = record { nodes = λ m. refl; links = set_link_1 _ _ _ _ _; book = λ m. refl } })) }
+step_6 = record { at = record { link = link1_1; found = refl; n = 0; to = refl; serving = refl; node = node0_0; node_found = refl }; does = Unless.acts refl (ServerRow.greets (record { client = refl; uses = record { text = 6 ∷ []; asks = (Said.Asks Handshake, refl, refl); left = record { left = []; taken = 0 }; reads = record { rest = []; begins = refl; new_is = refl } }; reply = 4 ∷ []; plain = refl; becomes = record { nodes = λ m. refl; links = set_link_1 _ _ _ _ _; book = λ m. refl } })) }
 
 step_7 : Row (moment_6) (Event.Deliver 1 Dialler 1) moment_7
 step_7 = inl (record { at = record { link = link1_2; found = refl; n = 1; node = node1_1; node_found = refl; phase = Greet 0; follow = refl }; sent = let h : 1 ≤ 1 = omega arith in h; does = Unless.acts refl (record { nodes = λ m. refl; links = set_link_1 _ _ _ _ _; book = λ m. refl }) })
@@ -205,10 +205,10 @@ step_8 : Row (moment_7) (Event.Step 1 Dialler tt 2) moment_8
 step_8 = record { at = record { link = link1_3; found = refl; n = 1; node = node1_1; node_found = refl; phase = Greet 0; follow = refl }; does = Unless.acts refl (FollowerRow.hears_reply (record { number = 0; phase = refl; not_last = omega arith; line = Plain; plus = plain_is_no_refusal; hears = record { text = 4 ∷ []; says = refl; left = record { left = []; taken = 0 }; reads = record { rest = []; begins = refl; new_is = refl } }; request = 6 ∷ []; asks = (Said.Asks Handshake, refl, refl); becomes = record { nodes = set_node_1 _ _ _; links = set_link_1 _ _ _ _ _; book = λ m. refl } })) }
 
 step_9 : Row (moment_8) (Event.Deliver 1 Server 1) moment_9
-step_9 = record { at = record { link = link1_0; found = refl; serving = refl; node = node0_0; node_found = refl }; sent = let h : 1 ≤ 1 = omega arith in h; does = Unless.acts refl (record { nodes = λ m. refl; links = set_link_1 _ _ _ _ _; book = λ m. refl }) }
+step_9 = record { at = record { link = link1_0; found = refl; n = 0; to = refl; serving = refl; node = node0_0; node_found = refl }; sent = let h : 1 ≤ 1 = omega arith in h; does = Unless.acts refl (record { nodes = λ m. refl; links = set_link_1 _ _ _ _ _; book = λ m. refl }) }
 
 step_10 : Row (moment_9) (Event.Step 1 Server tt 2) moment_10
-step_10 = record { at = record { link = link1_1; found = refl; serving = refl; node = node0_0; node_found = refl }; does = Unless.acts refl (ServerRow.greets (record { client = refl; uses = record { text = 6 ∷ []; asks = (Said.Asks Handshake, refl, refl); left = record { left = []; taken = 0 }; reads = record { rest = []; begins = refl; new_is = refl } }; reply = 4 ∷ []; plain = refl; becomes = record { nodes = λ m. refl; links = set_link_1 _ _ _ _ _; book = λ m. refl } })) }
+step_10 = record { at = record { link = link1_1; found = refl; n = 0; to = refl; serving = refl; node = node0_0; node_found = refl }; does = Unless.acts refl (ServerRow.greets (record { client = refl; uses = record { text = 6 ∷ []; asks = (Said.Asks Handshake, refl, refl); left = record { left = []; taken = 0 }; reads = record { rest = []; begins = refl; new_is = refl } }; reply = 4 ∷ []; plain = refl; becomes = record { nodes = λ m. refl; links = set_link_1 _ _ _ _ _; book = λ m. refl } })) }
 
 step_11 : Row (moment_10) (Event.Deliver 1 Dialler 1) moment_11
 step_11 = inl (record { at = record { link = link1_2; found = refl; n = 1; node = node1_2; node_found = refl; phase = Greet 1; follow = refl }; sent = let h : 1 ≤ 1 = omega arith in h; does = Unless.acts refl (record { nodes = λ m. refl; links = set_link_1 _ _ _ _ _; book = λ m. refl }) })
@@ -217,10 +217,10 @@ step_12 : Row (moment_11) (Event.Step 1 Dialler tt 2) moment_12
 step_12 = record { at = record { link = link1_3; found = refl; n = 1; node = node1_2; node_found = refl; phase = Greet 1; follow = refl }; does = Unless.acts refl (FollowerRow.hears_reply (record { number = 1; phase = refl; not_last = omega arith; line = Plain; plus = plain_is_no_refusal; hears = record { text = 4 ∷ []; says = refl; left = record { left = []; taken = 0 }; reads = record { rest = []; begins = refl; new_is = refl } }; request = 6 ∷ []; asks = (Said.Asks Handshake, refl, refl); becomes = record { nodes = set_node_1 _ _ _; links = set_link_1 _ _ _ _ _; book = λ m. refl } })) }
 
 step_13 : Row (moment_12) (Event.Deliver 1 Server 1) moment_13
-step_13 = record { at = record { link = link1_0; found = refl; serving = refl; node = node0_0; node_found = refl }; sent = let h : 1 ≤ 1 = omega arith in h; does = Unless.acts refl (record { nodes = λ m. refl; links = set_link_1 _ _ _ _ _; book = λ m. refl }) }
+step_13 = record { at = record { link = link1_0; found = refl; n = 0; to = refl; serving = refl; node = node0_0; node_found = refl }; sent = let h : 1 ≤ 1 = omega arith in h; does = Unless.acts refl (record { nodes = λ m. refl; links = set_link_1 _ _ _ _ _; book = λ m. refl }) }
 
 step_14 : Row (moment_13) (Event.Step 1 Server tt 2) moment_14
-step_14 = record { at = record { link = link1_1; found = refl; serving = refl; node = node0_0; node_found = refl }; does = Unless.acts refl (ServerRow.greets (record { client = refl; uses = record { text = 6 ∷ []; asks = (Said.Asks Handshake, refl, refl); left = record { left = []; taken = 0 }; reads = record { rest = []; begins = refl; new_is = refl } }; reply = 4 ∷ []; plain = refl; becomes = record { nodes = λ m. refl; links = set_link_1 _ _ _ _ _; book = λ m. refl } })) }
+step_14 = record { at = record { link = link1_1; found = refl; n = 0; to = refl; serving = refl; node = node0_0; node_found = refl }; does = Unless.acts refl (ServerRow.greets (record { client = refl; uses = record { text = 6 ∷ []; asks = (Said.Asks Handshake, refl, refl); left = record { left = []; taken = 0 }; reads = record { rest = []; begins = refl; new_is = refl } }; reply = 4 ∷ []; plain = refl; becomes = record { nodes = λ m. refl; links = set_link_1 _ _ _ _ _; book = λ m. refl } })) }
 
 step_15 : Row (moment_14) (Event.Deliver 1 Dialler 1) moment_15
 step_15 = inl (record { at = record { link = link1_2; found = refl; n = 1; node = node1_3; node_found = refl; phase = Greet 2; follow = refl }; sent = let h : 1 ≤ 1 = omega arith in h; does = Unless.acts refl (record { nodes = λ m. refl; links = set_link_1 _ _ _ _ _; book = λ m. refl }) })
@@ -229,10 +229,10 @@ step_16 : Row (moment_15) (Event.Step 1 Dialler tt 2) moment_16
 step_16 = record { at = record { link = link1_3; found = refl; n = 1; node = node1_3; node_found = refl; phase = Greet 2; follow = refl }; does = Unless.acts refl (FollowerRow.hears_last_reply (record { phase = refl; line = Plain; plus = plain_is_no_refusal; hears = record { text = 4 ∷ []; says = refl; left = record { left = []; taken = 0 }; reads = record { rest = []; begins = refl; new_is = refl } }; request = 7 ∷ 0 ∷ []; asks = (Said.Asks (Psync None), refl, refl); becomes = record { nodes = set_node_1 _ _ _; links = set_link_1 _ _ _ _ _; book = λ m. refl } })) }
 
 step_17 : Row (moment_16) (Event.Deliver 1 Server 2) moment_17
-step_17 = record { at = record { link = link1_4; found = refl; serving = refl; node = node0_0; node_found = refl }; sent = let h : 2 ≤ 2 = omega arith in h; does = Unless.acts refl (record { nodes = λ m. refl; links = set_link_1 _ _ _ _ _; book = λ m. refl }) }
+step_17 = record { at = record { link = link1_4; found = refl; n = 0; to = refl; serving = refl; node = node0_0; node_found = refl }; sent = let h : 2 ≤ 2 = omega arith in h; does = Unless.acts refl (record { nodes = λ m. refl; links = set_link_1 _ _ _ _ _; book = λ m. refl }) }
 
 step_18 : Row (moment_17) (Event.Step 1 Server tt 2) moment_18
-step_18 = record { at = record { link = link1_5; found = refl; serving = refl; node = node0_0; node_found = refl }; does = Unless.acts refl (ServerRow.resynchronizes (record { client = refl; master = refl; query = None; uses = record { text = 7 ∷ 0 ∷ []; asks = (Said.Asks (Psync None), refl, refl); left = record { left = []; taken = 0 }; reads = record { rest = []; begins = refl; new_is = refl } }; apart = nothing_asked _; line = 2 ∷ 0 ∷ 0 ∷ []; says = refl; snapshot = 12 ∷ 0 ∷ []; loads = refl; becomes = record { nodes = λ m. refl; links = set_link_1 _ _ _ _ _; book = λ m. refl } })) }
+step_18 = record { at = record { link = link1_5; found = refl; n = 0; to = refl; serving = refl; node = node0_0; node_found = refl }; does = Unless.acts refl (ServerRow.resynchronizes (record { client = refl; master = refl; query = None; uses = record { text = 7 ∷ 0 ∷ []; asks = (Said.Asks (Psync None), refl, refl); left = record { left = []; taken = 0 }; reads = record { rest = []; begins = refl; new_is = refl } }; apart = nothing_asked _; line = 2 ∷ 0 ∷ 0 ∷ []; says = refl; snapshot = 12 ∷ 0 ∷ []; loads = refl; becomes = record { nodes = λ m. refl; links = set_link_1 _ _ _ _ _; book = λ m. refl } })) }
 
 step_19 : Row (moment_18) (Event.Deliver 1 Dialler 5) moment_19
 step_19 = inl (record { at = record { link = link1_6; found = refl; n = 1; node = node1_4; node_found = refl; phase = Asked; follow = refl }; sent = let h : 5 ≤ 5 = omega arith in h; does = Unless.acts refl (record { nodes = λ m. refl; links = set_link_1 _ _ _ _ _; book = λ m. refl }) })
@@ -247,10 +247,10 @@ step_22 : Row (moment_21) (Event.Command 0 (10 ∷ [])) moment_22
 step_22 = record { link = link0_0; found = refl; client = refl; becomes = record { nodes = λ m. refl; links = set_link_0 _ _ _ _ _; book = λ m. refl } }
 
 step_23 : Row (moment_22) (Event.Deliver 0 Server 1) moment_23
-step_23 = record { at = record { link = link0_1; found = refl; serving = refl; node = node0_0; node_found = refl }; sent = let h : 1 ≤ 1 = omega arith in h; does = Unless.acts refl (record { nodes = λ m. refl; links = set_link_0 _ _ _ _ _; book = λ m. refl }) }
+step_23 = record { at = record { link = link0_1; found = refl; n = 0; to = refl; serving = refl; node = node0_0; node_found = refl }; sent = let h : 1 ≤ 1 = omega arith in h; does = Unless.acts refl (record { nodes = λ m. refl; links = set_link_0 _ _ _ _ _; book = λ m. refl }) }
 
 step_24 : Row (moment_23) (Event.Step 0 Server tt 2) moment_24
-step_24 = record { at = record { link = link0_2; found = refl; serving = refl; node = node0_0; node_found = refl }; does = Unless.acts refl (ServerRow.runs (record { client = refl; master = refl; uses = record { text = 10 ∷ []; asks = (Said.Asks Command, refl, refl); left = record { left = []; taken = 0 }; reads = record { rest = []; begins = refl; new_is = refl } }; effects = 7 ∷ []; of_request = tt; transaction = None; leads = refl; grown = record { good = All-cons tiny.IsGood 7 [] tt (All-nil tiny.IsGood); within = let h : 2 ≤ 6 = omega arith in h; held = 7 ∷ []; folds = refl; backlog = 1 ∷ 7 ∷ []; last_bytes = ([], refl); nodes = set_node_0 _ _ _; book = record { history = history0_0; found = refl; book = set_id_0 _ _ _ _ } }; reply = 99 ∷ []; link = refl; no_links = told_links_0_none; links = told_links_0 })) }
+step_24 = record { at = record { link = link0_2; found = refl; n = 0; to = refl; serving = refl; node = node0_0; node_found = refl }; does = Unless.acts refl (ServerRow.runs (record { client = refl; master = refl; uses = record { text = 10 ∷ []; asks = (Said.Asks Command, refl, refl); left = record { left = []; taken = 0 }; reads = record { rest = []; begins = refl; new_is = refl } }; effects = 7 ∷ []; of_request = tt; transaction = None; leads = refl; grown = record { good = All-cons tiny.IsGood 7 [] tt (All-nil tiny.IsGood); within = let h : 2 ≤ 6 = omega arith in h; held = 7 ∷ []; folds = refl; backlog = 1 ∷ 7 ∷ []; last_bytes = ([], refl); nodes = set_node_0 _ _ _; book = record { history = history0_0; found = refl; book = set_id_0 _ _ _ _ } }; reply = 99 ∷ []; link = refl; no_links = told_links_0_none; links = told_links_0 })) }
 
 step_25 : Row (moment_24) (Event.Deliver 1 Dialler 2) moment_25
 step_25 = inl (record { at = record { link = link1_10; found = refl; n = 1; node = node1_6; node_found = refl; phase = Stream; follow = refl }; sent = let h : 2 ≤ 2 = omega arith in h; does = Unless.acts refl (record { nodes = λ m. refl; links = set_link_1 _ _ _ _ _; book = λ m. refl }) })
@@ -265,37 +265,37 @@ step_28 : Row (moment_27) (Event.Command 2 (11 ∷ [])) moment_28
 step_28 = record { link = link2_0; found = refl; client = refl; becomes = record { nodes = λ m. refl; links = set_link_2 _ _ _ _ _; book = λ m. refl } }
 
 step_29 : Row (moment_28) (Event.Deliver 2 Server 1) moment_29
-step_29 = record { at = record { link = link2_1; found = refl; serving = refl; node = node1_7; node_found = refl }; sent = let h : 1 ≤ 1 = omega arith in h; does = Unless.acts refl (record { nodes = λ m. refl; links = set_link_2 _ _ _ _ _; book = λ m. refl }) }
+step_29 = record { at = record { link = link2_1; found = refl; n = 1; to = refl; serving = refl; node = node1_7; node_found = refl }; sent = let h : 1 ≤ 1 = omega arith in h; does = Unless.acts refl (record { nodes = λ m. refl; links = set_link_2 _ _ _ _ _; book = λ m. refl }) }
 
 step_30 : Row (moment_29) (Event.Step 2 Server tt 2) moment_30
-step_30 = record { at = record { link = link2_2; found = refl; serving = refl; node = node1_7; node_found = refl }; does = Unless.acts refl (ServerRow.promotes (record { client = refl; replica = refl; uses = record { text = 11 ∷ []; asks = (Said.Asks ReplicaOfNoOne, refl, refl); left = record { left = []; taken = 0 }; reads = record { rest = []; begins = refl; new_is = refl } }; nodes = set_node_1 _ _ _; reply = 98 ∷ []; links = set_link_2 _ _ _ _ _; book = record { new_id = refl; start = []; earlier = 7 ∷ []; later = []; front = record { found = refl; place = refl }; book = set_id_2 _ _ _ _ } })) }
+step_30 = record { at = record { link = link2_2; found = refl; n = 1; to = refl; serving = refl; node = node1_7; node_found = refl }; does = Unless.acts refl (ServerRow.promotes (record { client = refl; replica = refl; uses = record { text = 11 ∷ []; asks = (Said.Asks ReplicaOfNoOne, refl, refl); left = record { left = []; taken = 0 }; reads = record { rest = []; begins = refl; new_is = refl } }; nodes = set_node_1 _ _ _; reply = 98 ∷ []; links = set_link_2 _ _ _ _ _; book = record { new_id = refl; start = []; earlier = 7 ∷ []; later = []; front = record { found = refl; place = refl }; book = set_id_2 _ _ _ _ } })) }
 
 step_31 : Row (moment_30) (Event.Command 2 (10 ∷ [])) moment_31
 step_31 = record { link = link2_3; found = refl; client = refl; becomes = record { nodes = λ m. refl; links = set_link_2 _ _ _ _ _; book = λ m. refl } }
 
 step_32 : Row (moment_31) (Event.Deliver 2 Server 1) moment_32
-step_32 = record { at = record { link = link2_4; found = refl; serving = refl; node = node1_8; node_found = refl }; sent = let h : 1 ≤ 1 = omega arith in h; does = Unless.acts refl (record { nodes = λ m. refl; links = set_link_2 _ _ _ _ _; book = λ m. refl }) }
+step_32 = record { at = record { link = link2_4; found = refl; n = 1; to = refl; serving = refl; node = node1_8; node_found = refl }; sent = let h : 1 ≤ 1 = omega arith in h; does = Unless.acts refl (record { nodes = λ m. refl; links = set_link_2 _ _ _ _ _; book = λ m. refl }) }
 
 step_33 : Row (moment_32) (Event.Step 2 Server tt 2) moment_33
-step_33 = record { at = record { link = link2_5; found = refl; serving = refl; node = node1_8; node_found = refl }; does = Unless.acts refl (ServerRow.runs (record { client = refl; master = refl; uses = record { text = 10 ∷ []; asks = (Said.Asks Command, refl, refl); left = record { left = []; taken = 0 }; reads = record { rest = []; begins = refl; new_is = refl } }; effects = 8 ∷ []; of_request = tt; transaction = None; leads = refl; grown = record { good = All-cons tiny.IsGood 8 [] tt (All-nil tiny.IsGood); within = let h : 4 ≤ 6 = omega arith in h; held = 8 ∷ 7 ∷ []; folds = refl; backlog = 1 ∷ 7 ∷ 1 ∷ 8 ∷ []; last_bytes = ([], refl); nodes = set_node_1 _ _ _; book = record { history = history2_0; found = refl; book = set_id_2 _ _ _ _ } }; reply = 99 ∷ []; link = refl; no_links = told_links_1_none; links = told_links_1 })) }
+step_33 = record { at = record { link = link2_5; found = refl; n = 1; to = refl; serving = refl; node = node1_8; node_found = refl }; does = Unless.acts refl (ServerRow.runs (record { client = refl; master = refl; uses = record { text = 10 ∷ []; asks = (Said.Asks Command, refl, refl); left = record { left = []; taken = 0 }; reads = record { rest = []; begins = refl; new_is = refl } }; effects = 8 ∷ []; of_request = tt; transaction = None; leads = refl; grown = record { good = All-cons tiny.IsGood 8 [] tt (All-nil tiny.IsGood); within = let h : 4 ≤ 6 = omega arith in h; held = 8 ∷ 7 ∷ []; folds = refl; backlog = 1 ∷ 7 ∷ 1 ∷ 8 ∷ []; last_bytes = ([], refl); nodes = set_node_1 _ _ _; book = record { history = history2_0; found = refl; book = set_id_2 _ _ _ _ } }; reply = 99 ∷ []; link = refl; no_links = told_links_1_none; links = told_links_1 })) }
 
 step_34 : Row (moment_33) (Event.Command 0 (13 ∷ 1 ∷ 5 ∷ [])) moment_34
 step_34 = record { link = link0_3; found = refl; client = refl; becomes = record { nodes = λ m. refl; links = set_link_0 _ _ _ _ _; book = λ m. refl } }
 
 step_35 : Row (moment_34) (Event.Deliver 0 Server 3) moment_35
-step_35 = record { at = record { link = link0_4; found = refl; serving = refl; node = node0_1; node_found = refl }; sent = let h : 3 ≤ 3 = omega arith in h; does = Unless.acts refl (record { nodes = λ m. refl; links = set_link_0 _ _ _ _ _; book = λ m. refl }) }
+step_35 = record { at = record { link = link0_4; found = refl; n = 0; to = refl; serving = refl; node = node0_1; node_found = refl }; sent = let h : 3 ≤ 3 = omega arith in h; does = Unless.acts refl (record { nodes = λ m. refl; links = set_link_0 _ _ _ _ _; book = λ m. refl }) }
 
 step_36 : Row (moment_35) (Event.Step 0 Server tt 2) moment_36
-step_36 = record { at = record { link = link0_5; found = refl; serving = refl; node = node0_1; node_found = refl }; does = Unless.acts refl (ServerRow.demotes (record { client = refl; master = refl; host = 5 ∷ []; uses = record { text = 13 ∷ 1 ∷ 5 ∷ []; asks = (Said.Asks (ReplicaOf (5 ∷ [])), refl, refl); left = record { left = []; taken = 0 }; reads = record { rest = []; begins = refl; new_is = refl } }; nodes = set_node_0 _ _ _; reply = 97 ∷ []; link = refl; no_links = shut_links_none; links = shut_links; book = λ m. refl })) }
+step_36 = record { at = record { link = link0_5; found = refl; n = 0; to = refl; serving = refl; node = node0_1; node_found = refl }; does = Unless.acts refl (ServerRow.demotes (record { client = refl; master = refl; host = 5 ∷ []; uses = record { text = 13 ∷ 1 ∷ 5 ∷ []; asks = (Said.Asks (ReplicaOf (5 ∷ [])), refl, refl); left = record { left = []; taken = 0 }; reads = record { rest = []; begins = refl; new_is = refl } }; nodes = set_node_0 _ _ _; reply = 97 ∷ []; link = refl; no_links = shut_links_none; links = shut_links; book = λ m. refl })) }
 
 step_37 : Row (moment_36) (Event.Dial 0 1) moment_37
 step_37 = record { node = node0_2; found = refl; replica = refl; waiting = refl; server = node1_9; server_found = refl; does = Unless.acts refl (Unless.acts refl (Dials.connects (record { link = 3; new_link = refl; request = 6 ∷ []; asks = (Said.Asks Handshake, refl, refl); nodes = set_node_0 _ _ _; links = set_link_3 _ _ _ _ _; book = λ m. refl }))) }
 
 step_38 : Row (moment_37) (Event.Deliver 3 Server 1) moment_38
-step_38 = record { at = record { link = link3_0; found = refl; serving = refl; node = node1_9; node_found = refl }; sent = let h : 1 ≤ 1 = omega arith in h; does = Unless.acts refl (record { nodes = λ m. refl; links = set_link_3 _ _ _ _ _; book = λ m. refl }) }
+step_38 = record { at = record { link = link3_0; found = refl; n = 1; to = refl; serving = refl; node = node1_9; node_found = refl }; sent = let h : 1 ≤ 1 = omega arith in h; does = Unless.acts refl (record { nodes = λ m. refl; links = set_link_3 _ _ _ _ _; book = λ m. refl }) }
 
 step_39 : Row (moment_38) (Event.Step 3 Server tt 2) moment_39
-step_39 = record { at = record { link = link3_1; found = refl; serving = refl; node = node1_9; node_found = refl }; does = Unless.acts refl (ServerRow.greets (record { client = refl; uses = record { text = 6 ∷ []; asks = (Said.Asks Handshake, refl, refl); left = record { left = []; taken = 0 }; reads = record { rest = []; begins = refl; new_is = refl } }; reply = 4 ∷ []; plain = refl; becomes = record { nodes = λ m. refl; links = set_link_3 _ _ _ _ _; book = λ m. refl } })) }
+step_39 = record { at = record { link = link3_1; found = refl; n = 1; to = refl; serving = refl; node = node1_9; node_found = refl }; does = Unless.acts refl (ServerRow.greets (record { client = refl; uses = record { text = 6 ∷ []; asks = (Said.Asks Handshake, refl, refl); left = record { left = []; taken = 0 }; reads = record { rest = []; begins = refl; new_is = refl } }; reply = 4 ∷ []; plain = refl; becomes = record { nodes = λ m. refl; links = set_link_3 _ _ _ _ _; book = λ m. refl } })) }
 
 step_40 : Row (moment_39) (Event.Deliver 3 Dialler 1) moment_40
 step_40 = inl (record { at = record { link = link3_2; found = refl; n = 0; node = node0_3; node_found = refl; phase = Greet 0; follow = refl }; sent = let h : 1 ≤ 1 = omega arith in h; does = Unless.acts refl (record { nodes = λ m. refl; links = set_link_3 _ _ _ _ _; book = λ m. refl }) })
@@ -304,10 +304,10 @@ step_41 : Row (moment_40) (Event.Step 3 Dialler tt 2) moment_41
 step_41 = record { at = record { link = link3_3; found = refl; n = 0; node = node0_3; node_found = refl; phase = Greet 0; follow = refl }; does = Unless.acts refl (FollowerRow.hears_reply (record { number = 0; phase = refl; not_last = omega arith; line = Plain; plus = plain_is_no_refusal; hears = record { text = 4 ∷ []; says = refl; left = record { left = []; taken = 0 }; reads = record { rest = []; begins = refl; new_is = refl } }; request = 6 ∷ []; asks = (Said.Asks Handshake, refl, refl); becomes = record { nodes = set_node_0 _ _ _; links = set_link_3 _ _ _ _ _; book = λ m. refl } })) }
 
 step_42 : Row (moment_41) (Event.Deliver 3 Server 1) moment_42
-step_42 = record { at = record { link = link3_0; found = refl; serving = refl; node = node1_9; node_found = refl }; sent = let h : 1 ≤ 1 = omega arith in h; does = Unless.acts refl (record { nodes = λ m. refl; links = set_link_3 _ _ _ _ _; book = λ m. refl }) }
+step_42 = record { at = record { link = link3_0; found = refl; n = 1; to = refl; serving = refl; node = node1_9; node_found = refl }; sent = let h : 1 ≤ 1 = omega arith in h; does = Unless.acts refl (record { nodes = λ m. refl; links = set_link_3 _ _ _ _ _; book = λ m. refl }) }
 
 step_43 : Row (moment_42) (Event.Step 3 Server tt 2) moment_43
-step_43 = record { at = record { link = link3_1; found = refl; serving = refl; node = node1_9; node_found = refl }; does = Unless.acts refl (ServerRow.greets (record { client = refl; uses = record { text = 6 ∷ []; asks = (Said.Asks Handshake, refl, refl); left = record { left = []; taken = 0 }; reads = record { rest = []; begins = refl; new_is = refl } }; reply = 4 ∷ []; plain = refl; becomes = record { nodes = λ m. refl; links = set_link_3 _ _ _ _ _; book = λ m. refl } })) }
+step_43 = record { at = record { link = link3_1; found = refl; n = 1; to = refl; serving = refl; node = node1_9; node_found = refl }; does = Unless.acts refl (ServerRow.greets (record { client = refl; uses = record { text = 6 ∷ []; asks = (Said.Asks Handshake, refl, refl); left = record { left = []; taken = 0 }; reads = record { rest = []; begins = refl; new_is = refl } }; reply = 4 ∷ []; plain = refl; becomes = record { nodes = λ m. refl; links = set_link_3 _ _ _ _ _; book = λ m. refl } })) }
 
 step_44 : Row (moment_43) (Event.Deliver 3 Dialler 1) moment_44
 step_44 = inl (record { at = record { link = link3_2; found = refl; n = 0; node = node0_4; node_found = refl; phase = Greet 1; follow = refl }; sent = let h : 1 ≤ 1 = omega arith in h; does = Unless.acts refl (record { nodes = λ m. refl; links = set_link_3 _ _ _ _ _; book = λ m. refl }) })
@@ -316,10 +316,10 @@ step_45 : Row (moment_44) (Event.Step 3 Dialler tt 2) moment_45
 step_45 = record { at = record { link = link3_3; found = refl; n = 0; node = node0_4; node_found = refl; phase = Greet 1; follow = refl }; does = Unless.acts refl (FollowerRow.hears_reply (record { number = 1; phase = refl; not_last = omega arith; line = Plain; plus = plain_is_no_refusal; hears = record { text = 4 ∷ []; says = refl; left = record { left = []; taken = 0 }; reads = record { rest = []; begins = refl; new_is = refl } }; request = 6 ∷ []; asks = (Said.Asks Handshake, refl, refl); becomes = record { nodes = set_node_0 _ _ _; links = set_link_3 _ _ _ _ _; book = λ m. refl } })) }
 
 step_46 : Row (moment_45) (Event.Deliver 3 Server 1) moment_46
-step_46 = record { at = record { link = link3_0; found = refl; serving = refl; node = node1_9; node_found = refl }; sent = let h : 1 ≤ 1 = omega arith in h; does = Unless.acts refl (record { nodes = λ m. refl; links = set_link_3 _ _ _ _ _; book = λ m. refl }) }
+step_46 = record { at = record { link = link3_0; found = refl; n = 1; to = refl; serving = refl; node = node1_9; node_found = refl }; sent = let h : 1 ≤ 1 = omega arith in h; does = Unless.acts refl (record { nodes = λ m. refl; links = set_link_3 _ _ _ _ _; book = λ m. refl }) }
 
 step_47 : Row (moment_46) (Event.Step 3 Server tt 2) moment_47
-step_47 = record { at = record { link = link3_1; found = refl; serving = refl; node = node1_9; node_found = refl }; does = Unless.acts refl (ServerRow.greets (record { client = refl; uses = record { text = 6 ∷ []; asks = (Said.Asks Handshake, refl, refl); left = record { left = []; taken = 0 }; reads = record { rest = []; begins = refl; new_is = refl } }; reply = 4 ∷ []; plain = refl; becomes = record { nodes = λ m. refl; links = set_link_3 _ _ _ _ _; book = λ m. refl } })) }
+step_47 = record { at = record { link = link3_1; found = refl; n = 1; to = refl; serving = refl; node = node1_9; node_found = refl }; does = Unless.acts refl (ServerRow.greets (record { client = refl; uses = record { text = 6 ∷ []; asks = (Said.Asks Handshake, refl, refl); left = record { left = []; taken = 0 }; reads = record { rest = []; begins = refl; new_is = refl } }; reply = 4 ∷ []; plain = refl; becomes = record { nodes = λ m. refl; links = set_link_3 _ _ _ _ _; book = λ m. refl } })) }
 
 step_48 : Row (moment_47) (Event.Deliver 3 Dialler 1) moment_48
 step_48 = inl (record { at = record { link = link3_2; found = refl; n = 0; node = node0_5; node_found = refl; phase = Greet 2; follow = refl }; sent = let h : 1 ≤ 1 = omega arith in h; does = Unless.acts refl (record { nodes = λ m. refl; links = set_link_3 _ _ _ _ _; book = λ m. refl }) })
@@ -328,10 +328,10 @@ step_49 : Row (moment_48) (Event.Step 3 Dialler tt 2) moment_49
 step_49 = record { at = record { link = link3_3; found = refl; n = 0; node = node0_5; node_found = refl; phase = Greet 2; follow = refl }; does = Unless.acts refl (FollowerRow.hears_last_reply (record { phase = refl; line = Plain; plus = plain_is_no_refusal; hears = record { text = 4 ∷ []; says = refl; left = record { left = []; taken = 0 }; reads = record { rest = []; begins = refl; new_is = refl } }; request = 7 ∷ 1 ∷ 0 ∷ 3 ∷ []; asks = (Said.Asks (Psync (Some (0, 3))), refl, refl); becomes = record { nodes = set_node_0 _ _ _; links = set_link_3 _ _ _ _ _; book = λ m. refl } })) }
 
 step_50 : Row (moment_49) (Event.Deliver 3 Server 4) moment_50
-step_50 = record { at = record { link = link3_4; found = refl; serving = refl; node = node1_9; node_found = refl }; sent = let h : 4 ≤ 4 = omega arith in h; does = Unless.acts refl (record { nodes = λ m. refl; links = set_link_3 _ _ _ _ _; book = λ m. refl }) }
+step_50 = record { at = record { link = link3_4; found = refl; n = 1; to = refl; serving = refl; node = node1_9; node_found = refl }; sent = let h : 4 ≤ 4 = omega arith in h; does = Unless.acts refl (record { nodes = λ m. refl; links = set_link_3 _ _ _ _ _; book = λ m. refl }) }
 
 step_51 : Row (moment_50) (Event.Step 3 Server tt 2) moment_51
-step_51 = record { at = record { link = link3_5; found = refl; serving = refl; node = node1_9; node_found = refl }; does = Unless.acts refl (ServerRow.goes_on (record { client = refl; master = refl; id = 0; from = 3; uses = record { text = 7 ∷ 1 ∷ 0 ∷ 3 ∷ []; asks = (Said.Asks (Psync (Some (0, 3))), refl, refl); left = record { left = []; taken = 0 }; reads = record { rest = []; begins = refl; new_is = refl } }; continues = record { known = inr (3, refl, let h : 3 ≤ 3 = omega arith in h); from_first = let h : 5 ≤ 7 = omega arith in h; to_end = let h : 3 ≤ 5 = omega arith in h }; line = 3 ∷ 2 ∷ []; says = refl; becomes = record { nodes = λ m. refl; links = set_link_3 _ _ _ _ _; book = λ m. refl } })) }
+step_51 = record { at = record { link = link3_5; found = refl; n = 1; to = refl; serving = refl; node = node1_9; node_found = refl }; does = Unless.acts refl (ServerRow.goes_on (record { client = refl; master = refl; id = 0; from = 3; uses = record { text = 7 ∷ 1 ∷ 0 ∷ 3 ∷ []; asks = (Said.Asks (Psync (Some (0, 3))), refl, refl); left = record { left = []; taken = 0 }; reads = record { rest = []; begins = refl; new_is = refl } }; continues = record { known = inr (3, refl, let h : 3 ≤ 3 = omega arith in h); from_first = let h : 5 ≤ 7 = omega arith in h; to_end = let h : 3 ≤ 5 = omega arith in h }; line = 3 ∷ 2 ∷ []; says = refl; becomes = record { nodes = λ m. refl; links = set_link_3 _ _ _ _ _; book = λ m. refl } })) }
 
 step_52 : Row (moment_51) (Event.Deliver 3 Dialler 4) moment_52
 step_52 = inl (record { at = record { link = link3_6; found = refl; n = 0; node = node0_6; node_found = refl; phase = Asked; follow = refl }; sent = let h : 4 ≤ 4 = omega arith in h; does = Unless.acts refl (record { nodes = λ m. refl; links = set_link_3 _ _ _ _ _; book = λ m. refl }) })
@@ -360,6 +360,8 @@ ends_level = record {
   replica_up = refl;
   phase = Stream;
   follow = refl;
+  m = 1;
+  to = refl;
   master_found = refl;
   master_up = refl;
   serving = refl;

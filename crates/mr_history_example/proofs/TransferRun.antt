@@ -34,11 +34,11 @@ step_3 : Row moment_2 (Event.Command 0 (16 ∷ [])) moment_3
 step_3 = record { link = link_0; found = refl; client = refl; becomes = record { nodes = λ m. refl; links = changed (link_0 ∷ []) 0 _ link_1 refl; book = λ m. refl } }
 
 step_4 : Row moment_3 (Event.Deliver 0 Server 1) moment_4
-step_4 = record { at = record { link = link_1; found = refl; serving = refl; node = before; node_found = refl }; sent = let h : 1 ≤ 1 = omega arith in h; does = Unless.acts refl (record { nodes = λ m. refl; links = changed (link_1 ∷ []) 0 _ link_2 refl; book = λ m. refl }) }
+step_4 = record { at = record { link = link_1; found = refl; n = 0; to = refl; serving = refl; node = before; node_found = refl }; sent = let h : 1 ≤ 1 = omega arith in h; does = Unless.acts refl (record { nodes = λ m. refl; links = changed (link_1 ∷ []) 0 _ link_2 refl; book = λ m. refl }) }
 
 step_5 : Row moment_4 (Event.Step 0 Server tt 1) moment_5
 step_5 = record {
-  at = record { link = link_2; found = refl; serving = refl; node = before; node_found = refl };
+  at = record { link = link_2; found = refl; n = 0; to = refl; serving = refl; node = before; node_found = refl };
   does = Unless.acts refl (ServerRow.runs (record {
     client = refl;
     master = refl;
@@ -59,11 +59,11 @@ step_6 : Row moment_5 (Event.Command 0 (10 ∷ 10 ∷ [])) moment_6
 step_6 = record { link = link_3; found = refl; client = refl; becomes = record { nodes = λ m. refl; links = changed (link_3 ∷ []) 0 _ link_4 refl; book = λ m. refl } }
 
 step_7 : Row moment_6 (Event.Deliver 0 Server 2) moment_7
-step_7 = record { at = record { link = link_4; found = refl; serving = refl; node = before; node_found = refl }; sent = let h : 2 ≤ 2 = omega arith in h; does = Unless.acts refl (record { nodes = λ m. refl; links = changed (link_4 ∷ []) 0 _ link_5 refl; book = λ m. refl }) }
+step_7 = record { at = record { link = link_4; found = refl; n = 0; to = refl; serving = refl; node = before; node_found = refl }; sent = let h : 2 ≤ 2 = omega arith in h; does = Unless.acts refl (record { nodes = λ m. refl; links = changed (link_4 ∷ []) 0 _ link_5 refl; book = λ m. refl }) }
 
 step_8 : Row moment_7 (Event.Step 0 Server tt 1) moment_8
 step_8 = record {
-  at = record { link = link_5; found = refl; serving = refl; node = before; node_found = refl };
+  at = record { link = link_5; found = refl; n = 0; to = refl; serving = refl; node = before; node_found = refl };
   does = Unless.acts refl (ServerRow.runs (record {
     client = refl;
     master = refl;
@@ -82,7 +82,7 @@ step_8 = record {
 
 step_9 : Row moment_8 (Event.Step 0 Server tt 1) moment_9
 step_9 = record {
-  at = record { link = link_6; found = refl; serving = refl; node = before; node_found = refl };
+  at = record { link = link_6; found = refl; n = 0; to = refl; serving = refl; node = before; node_found = refl };
   does = Unless.acts refl (ServerRow.runs (record {
     client = refl;
     master = refl;
@@ -103,11 +103,11 @@ step_10 : Row moment_9 (Event.Command 0 (17 ∷ [])) moment_10
 step_10 = record { link = link_7; found = refl; client = refl; becomes = record { nodes = λ m. refl; links = changed (link_7 ∷ []) 0 _ link_8 refl; book = λ m. refl } }
 
 step_11 : Row moment_10 (Event.Deliver 0 Server 1) moment_11
-step_11 = record { at = record { link = link_8; found = refl; serving = refl; node = before; node_found = refl }; sent = let h : 1 ≤ 1 = omega arith in h; does = Unless.acts refl (record { nodes = λ m. refl; links = changed (link_8 ∷ []) 0 _ link_9 refl; book = λ m. refl }) }
+step_11 = record { at = record { link = link_8; found = refl; n = 0; to = refl; serving = refl; node = before; node_found = refl }; sent = let h : 1 ≤ 1 = omega arith in h; does = Unless.acts refl (record { nodes = λ m. refl; links = changed (link_8 ∷ []) 0 _ link_9 refl; book = λ m. refl }) }
 
 step_12 : Row moment_11 (Event.Step 0 Server tt 1) moment_12
 step_12 = record {
-  at = record { link = link_9; found = refl; serving = refl; node = before; node_found = refl };
+  at = record { link = link_9; found = refl; n = 0; to = refl; serving = refl; node = before; node_found = refl };
   does = Unless.acts refl (ServerRow.runs (record {
     client = refl;
     master = refl;

@@ -4,3 +4,4 @@ pub mod Looks
 pub mod Story
 pub mod Troubles
 pub mod Transfer
+pub mod LateAccept

@@ -40,7 +40,7 @@ history effects = record { start = []; effects = effects }
 abbrev pub link : List ℕ → ℕ → List ℕ → Option Transaction → Link
 link unread taken replies transaction = record {
   caller = Client true;
-  to = 0;
+  to = Some 0;
   serving = true;
   streams = false;
   ask = record { left = unread; taken = taken };

@@ -69,7 +69,7 @@ abbrev pub moment_3 : World tiny
 moment_3 = record { node = look nodes_3; link = look links_0; book = look book_3 }
 
 abbrev pub link0_0 : Link
-link0_0 = record { caller = Client true; to = 0; serving = true; streams = false; ask = record { left = []; taken = 0 }; tell = record { left = []; taken = 0 }; transaction = None }
+link0_0 = record { caller = Client true; to = Some 0; serving = true; streams = false; ask = record { left = []; taken = 0 }; tell = record { left = []; taken = 0 }; transaction = None }
 
 abbrev pub links_1 : List (Link)
 links_1 = link0_0 ∷ []
@@ -84,7 +84,7 @@ abbrev pub nodes_4 : List (Node tiny)
 nodes_4 = node0_0 ∷ node1_1 ∷ node2_0 ∷ []
 
 abbrev pub link1_0 : Link
-link1_0 = record { caller = Peer 1; to = 0; serving = true; streams = false; ask = record { left = 6 ∷ []; taken = 0 }; tell = record { left = []; taken = 0 }; transaction = None }
+link1_0 = record { caller = Peer 1; to = Some 0; serving = true; streams = false; ask = record { left = 6 ∷ []; taken = 0 }; tell = record { left = []; taken = 0 }; transaction = None }
 
 abbrev pub links_2 : List (Link)
 links_2 = link0_0 ∷ link1_0 ∷ []
@@ -93,7 +93,7 @@ abbrev pub moment_5 : World tiny
 moment_5 = record { node = look nodes_4; link = look links_2; book = look book_3 }
 
 abbrev pub link1_1 : Link
-link1_1 = record { caller = Peer 1; to = 0; serving = true; streams = false; ask = record { left = 6 ∷ []; taken = 1 }; tell = record { left = []; taken = 0 }; transaction = None }
+link1_1 = record { caller = Peer 1; to = Some 0; serving = true; streams = false; ask = record { left = 6 ∷ []; taken = 1 }; tell = record { left = []; taken = 0 }; transaction = None }
 
 abbrev pub links_3 : List (Link)
 links_3 = link0_0 ∷ link1_1 ∷ []
@@ -102,7 +102,7 @@ abbrev pub moment_6 : World tiny
 moment_6 = record { node = look nodes_4; link = look links_3; book = look book_3 }
 
 abbrev pub link1_2 : Link
-link1_2 = record { caller = Peer 1; to = 0; serving = true; streams = false; ask = record { left = []; taken = 0 }; tell = record { left = 4 ∷ []; taken = 0 }; transaction = None }
+link1_2 = record { caller = Peer 1; to = Some 0; serving = true; streams = false; ask = record { left = []; taken = 0 }; tell = record { left = 4 ∷ []; taken = 0 }; transaction = None }
 
 abbrev pub links_4 : List (Link)
 links_4 = link0_0 ∷ link1_2 ∷ []
@@ -111,7 +111,7 @@ abbrev pub moment_7 : World tiny
 moment_7 = record { node = look nodes_4; link = look links_4; book = look book_3 }
 
 abbrev pub link1_3 : Link
-link1_3 = record { caller = Peer 1; to = 0; serving = true; streams = false; ask = record { left = []; taken = 0 }; tell = record { left = 4 ∷ []; taken = 1 }; transaction = None }
+link1_3 = record { caller = Peer 1; to = Some 0; serving = true; streams = false; ask = record { left = []; taken = 0 }; tell = record { left = 4 ∷ []; taken = 1 }; transaction = None }
 
 abbrev pub links_5 : List (Link)
 links_5 = link0_0 ∷ link1_3 ∷ []
@@ -162,7 +162,7 @@ abbrev pub nodes_7 : List (Node tiny)
 nodes_7 = node0_0 ∷ node1_4 ∷ node2_0 ∷ []
 
 abbrev pub link1_4 : Link
-link1_4 = record { caller = Peer 1; to = 0; serving = true; streams = false; ask = record { left = 7 ∷ 0 ∷ []; taken = 0 }; tell = record { left = []; taken = 0 }; transaction = None }
+link1_4 = record { caller = Peer 1; to = Some 0; serving = true; streams = false; ask = record { left = 7 ∷ 0 ∷ []; taken = 0 }; tell = record { left = []; taken = 0 }; transaction = None }
 
 abbrev pub links_6 : List (Link)
 links_6 = link0_0 ∷ link1_4 ∷ []
@@ -171,7 +171,7 @@ abbrev pub moment_17 : World tiny
 moment_17 = record { node = look nodes_7; link = look links_6; book = look book_3 }
 
 abbrev pub link1_5 : Link
-link1_5 = record { caller = Peer 1; to = 0; serving = true; streams = false; ask = record { left = 7 ∷ 0 ∷ []; taken = 2 }; tell = record { left = []; taken = 0 }; transaction = None }
+link1_5 = record { caller = Peer 1; to = Some 0; serving = true; streams = false; ask = record { left = 7 ∷ 0 ∷ []; taken = 2 }; tell = record { left = []; taken = 0 }; transaction = None }
 
 abbrev pub links_7 : List (Link)
 links_7 = link0_0 ∷ link1_5 ∷ []
@@ -180,7 +180,7 @@ abbrev pub moment_18 : World tiny
 moment_18 = record { node = look nodes_7; link = look links_7; book = look book_3 }
 
 abbrev pub link1_6 : Link
-link1_6 = record { caller = Peer 1; to = 0; serving = true; streams = true; ask = record { left = []; taken = 0 }; tell = record { left = 2 ∷ 0 ∷ 0 ∷ 12 ∷ 0 ∷ []; taken = 0 }; transaction = None }
+link1_6 = record { caller = Peer 1; to = Some 0; serving = true; streams = true; ask = record { left = []; taken = 0 }; tell = record { left = 2 ∷ 0 ∷ 0 ∷ 12 ∷ 0 ∷ []; taken = 0 }; transaction = None }
 
 abbrev pub links_8 : List (Link)
 links_8 = link0_0 ∷ link1_6 ∷ []
@@ -189,7 +189,7 @@ abbrev pub moment_19 : World tiny
 moment_19 = record { node = look nodes_7; link = look links_8; book = look book_3 }
 
 abbrev pub link1_7 : Link
-link1_7 = record { caller = Peer 1; to = 0; serving = true; streams = true; ask = record { left = []; taken = 0 }; tell = record { left = 2 ∷ 0 ∷ 0 ∷ 12 ∷ 0 ∷ []; taken = 5 }; transaction = None }
+link1_7 = record { caller = Peer 1; to = Some 0; serving = true; streams = true; ask = record { left = []; taken = 0 }; tell = record { left = 2 ∷ 0 ∷ 0 ∷ 12 ∷ 0 ∷ []; taken = 5 }; transaction = None }
 
 abbrev pub links_9 : List (Link)
 links_9 = link0_0 ∷ link1_7 ∷ []
@@ -204,7 +204,7 @@ abbrev pub nodes_8 : List (Node tiny)
 nodes_8 = node0_0 ∷ node1_5 ∷ node2_0 ∷ []
 
 abbrev pub link1_8 : Link
-link1_8 = record { caller = Peer 1; to = 0; serving = true; streams = true; ask = record { left = []; taken = 0 }; tell = record { left = 12 ∷ 0 ∷ []; taken = 2 }; transaction = None }
+link1_8 = record { caller = Peer 1; to = Some 0; serving = true; streams = true; ask = record { left = []; taken = 0 }; tell = record { left = 12 ∷ 0 ∷ []; taken = 2 }; transaction = None }
 
 abbrev pub links_10 : List (Link)
 links_10 = link0_0 ∷ link1_8 ∷ []
@@ -219,7 +219,7 @@ abbrev pub nodes_9 : List (Node tiny)
 nodes_9 = node0_0 ∷ node1_6 ∷ node2_0 ∷ []
 
 abbrev pub link1_9 : Link
-link1_9 = record { caller = Peer 1; to = 0; serving = true; streams = true; ask = record { left = []; taken = 0 }; tell = record { left = []; taken = 0 }; transaction = None }
+link1_9 = record { caller = Peer 1; to = Some 0; serving = true; streams = true; ask = record { left = []; taken = 0 }; tell = record { left = []; taken = 0 }; transaction = None }
 
 abbrev pub links_11 : List (Link)
 links_11 = link0_0 ∷ link1_9 ∷ []
@@ -234,7 +234,7 @@ abbrev pub nodes_10 : List (Node tiny)
 nodes_10 = node0_1 ∷ node1_6 ∷ node2_0 ∷ []
 
 abbrev pub link1_10 : Link
-link1_10 = record { caller = Peer 1; to = 0; serving = true; streams = true; ask = record { left = []; taken = 0 }; tell = record { left = 1 ∷ 7 ∷ []; taken = 0 }; transaction = None }
+link1_10 = record { caller = Peer 1; to = Some 0; serving = true; streams = true; ask = record { left = []; taken = 0 }; tell = record { left = 1 ∷ 7 ∷ []; taken = 0 }; transaction = None }
 
 abbrev pub links_12 : List (Link)
 links_12 = link0_0 ∷ link1_10 ∷ []
@@ -249,7 +249,7 @@ abbrev pub moment_23 : World tiny
 moment_23 = record { node = look nodes_10; link = look links_12; book = look book_4 }
 
 abbrev pub link1_11 : Link
-link1_11 = record { caller = Peer 1; to = 0; serving = true; streams = true; ask = record { left = []; taken = 0 }; tell = record { left = 1 ∷ 7 ∷ []; taken = 2 }; transaction = None }
+link1_11 = record { caller = Peer 1; to = Some 0; serving = true; streams = true; ask = record { left = []; taken = 0 }; tell = record { left = 1 ∷ 7 ∷ []; taken = 2 }; transaction = None }
 
 abbrev pub links_13 : List (Link)
 links_13 = link0_0 ∷ link1_11 ∷ []
@@ -267,7 +267,7 @@ abbrev pub moment_25 : World tiny
 moment_25 = record { node = look nodes_11; link = look links_11; book = look book_4 }
 
 abbrev pub link1_12 : Link
-link1_12 = record { caller = Peer 1; to = 0; serving = true; streams = true; ask = record { left = 9 ∷ []; taken = 0 }; tell = record { left = []; taken = 0 }; transaction = None }
+link1_12 = record { caller = Peer 1; to = Some 0; serving = true; streams = true; ask = record { left = 9 ∷ []; taken = 0 }; tell = record { left = []; taken = 0 }; transaction = None }
 
 abbrev pub links_14 : List (Link)
 links_14 = link0_0 ∷ link1_12 ∷ []
@@ -276,7 +276,7 @@ abbrev pub moment_26 : World tiny
 moment_26 = record { node = look nodes_11; link = look links_14; book = look book_4 }
 
 abbrev pub link1_13 : Link
-link1_13 = record { caller = Peer 1; to = 0; serving = true; streams = true; ask = record { left = 9 ∷ []; taken = 1 }; tell = record { left = []; taken = 0 }; transaction = None }
+link1_13 = record { caller = Peer 1; to = Some 0; serving = true; streams = true; ask = record { left = 9 ∷ []; taken = 1 }; tell = record { left = []; taken = 0 }; transaction = None }
 
 abbrev pub links_15 : List (Link)
 links_15 = link0_0 ∷ link1_13 ∷ []
@@ -288,7 +288,7 @@ abbrev pub moment_28 : World tiny
 moment_28 = record { node = look nodes_11; link = look links_11; book = look book_4 }
 
 abbrev pub link0_1 : Link
-link0_1 = record { caller = Client true; to = 0; serving = true; streams = false; ask = record { left = 14 ∷ 10 ∷ []; taken = 0 }; tell = record { left = []; taken = 0 }; transaction = None }
+link0_1 = record { caller = Client true; to = Some 0; serving = true; streams = false; ask = record { left = 14 ∷ 10 ∷ []; taken = 0 }; tell = record { left = []; taken = 0 }; transaction = None }
 
 abbrev pub links_16 : List (Link)
 links_16 = link0_1 ∷ link1_9 ∷ []
@@ -297,7 +297,7 @@ abbrev pub moment_29 : World tiny
 moment_29 = record { node = look nodes_11; link = look links_16; book = look book_4 }
 
 abbrev pub link0_2 : Link
-link0_2 = record { caller = Client true; to = 0; serving = true; streams = false; ask = record { left = 14 ∷ 10 ∷ []; taken = 2 }; tell = record { left = []; taken = 0 }; transaction = None }
+link0_2 = record { caller = Client true; to = Some 0; serving = true; streams = false; ask = record { left = 14 ∷ 10 ∷ []; taken = 2 }; tell = record { left = []; taken = 0 }; transaction = None }
 
 abbrev pub links_17 : List (Link)
 links_17 = link0_2 ∷ link1_9 ∷ []
@@ -306,7 +306,7 @@ abbrev pub moment_30 : World tiny
 moment_30 = record { node = look nodes_11; link = look links_17; book = look book_4 }
 
 abbrev pub link0_3 : Link
-link0_3 = record { caller = Client true; to = 0; serving = true; streams = false; ask = record { left = 10 ∷ []; taken = 1 }; tell = record { left = []; taken = 0 }; transaction = None }
+link0_3 = record { caller = Client true; to = Some 0; serving = true; streams = false; ask = record { left = 10 ∷ []; taken = 1 }; tell = record { left = []; taken = 0 }; transaction = None }
 
 abbrev pub links_18 : List (Link)
 links_18 = link0_3 ∷ link1_9 ∷ []
@@ -315,7 +315,7 @@ abbrev pub moment_31 : World tiny
 moment_31 = record { node = look nodes_11; link = look links_18; book = look book_4 }
 
 abbrev pub link0_4 : Link
-link0_4 = record { caller = Client true; to = 0; serving = true; streams = false; ask = record { left = []; taken = 0 }; tell = record { left = 96 ∷ []; taken = 0 }; transaction = None }
+link0_4 = record { caller = Client true; to = Some 0; serving = true; streams = false; ask = record { left = []; taken = 0 }; tell = record { left = 96 ∷ []; taken = 0 }; transaction = None }
 
 abbrev pub links_19 : List (Link)
 links_19 = link0_4 ∷ link1_9 ∷ []
@@ -324,7 +324,7 @@ abbrev pub moment_32 : World tiny
 moment_32 = record { node = look nodes_11; link = look links_19; book = look book_4 }
 
 abbrev pub link0_5 : Link
-link0_5 = record { caller = Client true; to = 0; serving = true; streams = false; ask = record { left = 0 ∷ []; taken = 0 }; tell = record { left = 96 ∷ []; taken = 0 }; transaction = None }
+link0_5 = record { caller = Client true; to = Some 0; serving = true; streams = false; ask = record { left = 0 ∷ []; taken = 0 }; tell = record { left = 96 ∷ []; taken = 0 }; transaction = None }
 
 abbrev pub links_20 : List (Link)
 links_20 = link0_5 ∷ link1_9 ∷ []
@@ -333,7 +333,7 @@ abbrev pub moment_33 : World tiny
 moment_33 = record { node = look nodes_11; link = look links_20; book = look book_4 }
 
 abbrev pub link0_6 : Link
-link0_6 = record { caller = Client true; to = 0; serving = true; streams = false; ask = record { left = 0 ∷ []; taken = 1 }; tell = record { left = 96 ∷ []; taken = 0 }; transaction = None }
+link0_6 = record { caller = Client true; to = Some 0; serving = true; streams = false; ask = record { left = 0 ∷ []; taken = 1 }; tell = record { left = 96 ∷ []; taken = 0 }; transaction = None }
 
 abbrev pub links_21 : List (Link)
 links_21 = link0_6 ∷ link1_9 ∷ []
@@ -342,7 +342,7 @@ abbrev pub moment_34 : World tiny
 moment_34 = record { node = look nodes_11; link = look links_21; book = look book_4 }
 
 abbrev pub link0_7 : Link
-link0_7 = record { caller = Client true; to = 0; serving = false; streams = false; ask = record { left = 0 ∷ []; taken = 1 }; tell = record { left = 96 ∷ 95 ∷ []; taken = 0 }; transaction = None }
+link0_7 = record { caller = Client true; to = Some 0; serving = false; streams = false; ask = record { left = 0 ∷ []; taken = 1 }; tell = record { left = 96 ∷ 95 ∷ []; taken = 0 }; transaction = None }
 
 abbrev pub links_22 : List (Link)
 links_22 = link0_7 ∷ link1_9 ∷ []
@@ -351,7 +351,7 @@ abbrev pub moment_35 : World tiny
 moment_35 = record { node = look nodes_11; link = look links_22; book = look book_4 }
 
 abbrev pub link2_0 : Link
-link2_0 = record { caller = Client true; to = 0; serving = true; streams = false; ask = record { left = []; taken = 0 }; tell = record { left = []; taken = 0 }; transaction = None }
+link2_0 = record { caller = Client true; to = Some 0; serving = true; streams = false; ask = record { left = []; taken = 0 }; tell = record { left = []; taken = 0 }; transaction = None }
 
 abbrev pub links_23 : List (Link)
 links_23 = link0_7 ∷ link1_9 ∷ link2_0 ∷ []
@@ -360,7 +360,7 @@ abbrev pub moment_36 : World tiny
 moment_36 = record { node = look nodes_11; link = look links_23; book = look book_4 }
 
 abbrev pub link2_1 : Link
-link2_1 = record { caller = Client true; to = 0; serving = true; streams = false; ask = record { left = 15 ∷ []; taken = 0 }; tell = record { left = []; taken = 0 }; transaction = None }
+link2_1 = record { caller = Client true; to = Some 0; serving = true; streams = false; ask = record { left = 15 ∷ []; taken = 0 }; tell = record { left = []; taken = 0 }; transaction = None }
 
 abbrev pub links_24 : List (Link)
 links_24 = link0_7 ∷ link1_9 ∷ link2_1 ∷ []
@@ -369,7 +369,7 @@ abbrev pub moment_37 : World tiny
 moment_37 = record { node = look nodes_11; link = look links_24; book = look book_4 }
 
 abbrev pub link2_2 : Link
-link2_2 = record { caller = Client true; to = 0; serving = true; streams = false; ask = record { left = 15 ∷ []; taken = 1 }; tell = record { left = []; taken = 0 }; transaction = None }
+link2_2 = record { caller = Client true; to = Some 0; serving = true; streams = false; ask = record { left = 15 ∷ []; taken = 1 }; tell = record { left = []; taken = 0 }; transaction = None }
 
 abbrev pub links_25 : List (Link)
 links_25 = link0_7 ∷ link1_9 ∷ link2_2 ∷ []
@@ -378,7 +378,7 @@ abbrev pub moment_38 : World tiny
 moment_38 = record { node = look nodes_11; link = look links_25; book = look book_4 }
 
 abbrev pub link2_3 : Link
-link2_3 = record { caller = Client true; to = 0; serving = false; streams = false; ask = record { left = 15 ∷ []; taken = 1 }; tell = record { left = 98 ∷ []; taken = 0 }; transaction = None }
+link2_3 = record { caller = Client true; to = Some 0; serving = false; streams = false; ask = record { left = 15 ∷ []; taken = 1 }; tell = record { left = 98 ∷ []; taken = 0 }; transaction = None }
 
 abbrev pub links_26 : List (Link)
 links_26 = link0_7 ∷ link1_9 ∷ link2_3 ∷ []
@@ -393,7 +393,7 @@ abbrev pub nodes_12 : List (Node tiny)
 nodes_12 = node0_1 ∷ node1_7 ∷ node2_1 ∷ []
 
 abbrev pub link3_0 : Link
-link3_0 = record { caller = Peer 2; to = 1; serving = true; streams = false; ask = record { left = 6 ∷ []; taken = 0 }; tell = record { left = []; taken = 0 }; transaction = None }
+link3_0 = record { caller = Peer 2; to = Some 1; serving = true; streams = false; ask = record { left = 6 ∷ []; taken = 0 }; tell = record { left = []; taken = 0 }; transaction = None }
 
 abbrev pub links_27 : List (Link)
 links_27 = link0_7 ∷ link1_9 ∷ link2_3 ∷ link3_0 ∷ []
@@ -402,7 +402,7 @@ abbrev pub moment_40 : World tiny
 moment_40 = record { node = look nodes_12; link = look links_27; book = look book_4 }
 
 abbrev pub link3_1 : Link
-link3_1 = record { caller = Peer 2; to = 1; serving = true; streams = false; ask = record { left = 6 ∷ []; taken = 1 }; tell = record { left = []; taken = 0 }; transaction = None }
+link3_1 = record { caller = Peer 2; to = Some 1; serving = true; streams = false; ask = record { left = 6 ∷ []; taken = 1 }; tell = record { left = []; taken = 0 }; transaction = None }
 
 abbrev pub links_28 : List (Link)
 links_28 = link0_7 ∷ link1_9 ∷ link2_3 ∷ link3_1 ∷ []
@@ -411,7 +411,7 @@ abbrev pub moment_41 : World tiny
 moment_41 = record { node = look nodes_12; link = look links_28; book = look book_4 }
 
 abbrev pub link3_2 : Link
-link3_2 = record { caller = Peer 2; to = 1; serving = true; streams = false; ask = record { left = []; taken = 0 }; tell = record { left = 4 ∷ []; taken = 0 }; transaction = None }
+link3_2 = record { caller = Peer 2; to = Some 1; serving = true; streams = false; ask = record { left = []; taken = 0 }; tell = record { left = 4 ∷ []; taken = 0 }; transaction = None }
 
 abbrev pub links_29 : List (Link)
 links_29 = link0_7 ∷ link1_9 ∷ link2_3 ∷ link3_2 ∷ []
@@ -420,7 +420,7 @@ abbrev pub moment_42 : World tiny
 moment_42 = record { node = look nodes_12; link = look links_29; book = look book_4 }
 
 abbrev pub link3_3 : Link
-link3_3 = record { caller = Peer 2; to = 1; serving = true; streams = false; ask = record { left = []; taken = 0 }; tell = record { left = 4 ∷ []; taken = 1 }; transaction = None }
+link3_3 = record { caller = Peer 2; to = Some 1; serving = true; streams = false; ask = record { left = []; taken = 0 }; tell = record { left = 4 ∷ []; taken = 1 }; transaction = None }
 
 abbrev pub links_30 : List (Link)
 links_30 = link0_7 ∷ link1_9 ∷ link2_3 ∷ link3_3 ∷ []
@@ -471,7 +471,7 @@ abbrev pub nodes_15 : List (Node tiny)
 nodes_15 = node0_1 ∷ node1_7 ∷ node2_4 ∷ []
 
 abbrev pub link3_4 : Link
-link3_4 = record { caller = Peer 2; to = 1; serving = true; streams = false; ask = record { left = 7 ∷ 0 ∷ []; taken = 0 }; tell = record { left = []; taken = 0 }; transaction = None }
+link3_4 = record { caller = Peer 2; to = Some 1; serving = true; streams = false; ask = record { left = 7 ∷ 0 ∷ []; taken = 0 }; tell = record { left = []; taken = 0 }; transaction = None }
 
 abbrev pub links_31 : List (Link)
 links_31 = link0_7 ∷ link1_9 ∷ link2_3 ∷ link3_4 ∷ []
@@ -480,7 +480,7 @@ abbrev pub moment_52 : World tiny
 moment_52 = record { node = look nodes_15; link = look links_31; book = look book_4 }
 
 abbrev pub link3_5 : Link
-link3_5 = record { caller = Peer 2; to = 1; serving = true; streams = false; ask = record { left = 7 ∷ 0 ∷ []; taken = 2 }; tell = record { left = []; taken = 0 }; transaction = None }
+link3_5 = record { caller = Peer 2; to = Some 1; serving = true; streams = false; ask = record { left = 7 ∷ 0 ∷ []; taken = 2 }; tell = record { left = []; taken = 0 }; transaction = None }
 
 abbrev pub links_32 : List (Link)
 links_32 = link0_7 ∷ link1_9 ∷ link2_3 ∷ link3_5 ∷ []
@@ -489,7 +489,7 @@ abbrev pub moment_53 : World tiny
 moment_53 = record { node = look nodes_15; link = look links_32; book = look book_4 }
 
 abbrev pub link3_6 : Link
-link3_6 = record { caller = Peer 2; to = 1; serving = true; streams = false; ask = record { left = []; taken = 0 }; tell = record { left = 5 ∷ []; taken = 0 }; transaction = None }
+link3_6 = record { caller = Peer 2; to = Some 1; serving = true; streams = false; ask = record { left = []; taken = 0 }; tell = record { left = 5 ∷ []; taken = 0 }; transaction = None }
 
 abbrev pub links_33 : List (Link)
 links_33 = link0_7 ∷ link1_9 ∷ link2_3 ∷ link3_6 ∷ []
@@ -498,7 +498,7 @@ abbrev pub moment_54 : World tiny
 moment_54 = record { node = look nodes_15; link = look links_33; book = look book_4 }
 
 abbrev pub link3_7 : Link
-link3_7 = record { caller = Peer 2; to = 1; serving = true; streams = false; ask = record { left = []; taken = 0 }; tell = record { left = 5 ∷ []; taken = 1 }; transaction = None }
+link3_7 = record { caller = Peer 2; to = Some 1; serving = true; streams = false; ask = record { left = []; taken = 0 }; tell = record { left = 5 ∷ []; taken = 1 }; transaction = None }
 
 abbrev pub links_34 : List (Link)
 links_34 = link0_7 ∷ link1_9 ∷ link2_3 ∷ link3_7 ∷ []
@@ -510,7 +510,7 @@ abbrev pub moment_56 : World tiny
 moment_56 = record { node = look nodes_11; link = look links_34; book = look book_4 }
 
 abbrev pub link4_0 : Link
-link4_0 = record { caller = Client true; to = 2; serving = true; streams = false; ask = record { left = []; taken = 0 }; tell = record { left = []; taken = 0 }; transaction = None }
+link4_0 = record { caller = Client true; to = Some 2; serving = true; streams = false; ask = record { left = []; taken = 0 }; tell = record { left = []; taken = 0 }; transaction = None }
 
 abbrev pub links_35 : List (Link)
 links_35 = link0_7 ∷ link1_9 ∷ link2_3 ∷ link3_7 ∷ link4_0 ∷ []
@@ -519,7 +519,7 @@ abbrev pub moment_57 : World tiny
 moment_57 = record { node = look nodes_11; link = look links_35; book = look book_4 }
 
 abbrev pub link4_1 : Link
-link4_1 = record { caller = Client true; to = 2; serving = true; streams = false; ask = record { left = 13 ∷ 1 ∷ 5 ∷ []; taken = 0 }; tell = record { left = []; taken = 0 }; transaction = None }
+link4_1 = record { caller = Client true; to = Some 2; serving = true; streams = false; ask = record { left = 13 ∷ 1 ∷ 5 ∷ []; taken = 0 }; tell = record { left = []; taken = 0 }; transaction = None }
 
 abbrev pub links_36 : List (Link)
 links_36 = link0_7 ∷ link1_9 ∷ link2_3 ∷ link3_7 ∷ link4_1 ∷ []
@@ -528,7 +528,7 @@ abbrev pub moment_58 : World tiny
 moment_58 = record { node = look nodes_11; link = look links_36; book = look book_4 }
 
 abbrev pub link4_2 : Link
-link4_2 = record { caller = Client true; to = 2; serving = true; streams = false; ask = record { left = 13 ∷ 1 ∷ 5 ∷ []; taken = 3 }; tell = record { left = []; taken = 0 }; transaction = None }
+link4_2 = record { caller = Client true; to = Some 2; serving = true; streams = false; ask = record { left = 13 ∷ 1 ∷ 5 ∷ []; taken = 3 }; tell = record { left = []; taken = 0 }; transaction = None }
 
 abbrev pub links_37 : List (Link)
 links_37 = link0_7 ∷ link1_9 ∷ link2_3 ∷ link3_7 ∷ link4_2 ∷ []
@@ -543,7 +543,7 @@ abbrev pub nodes_16 : List (Node tiny)
 nodes_16 = node0_1 ∷ node1_7 ∷ node2_5 ∷ []
 
 abbrev pub link4_3 : Link
-link4_3 = record { caller = Client true; to = 2; serving = true; streams = false; ask = record { left = []; taken = 0 }; tell = record { left = 98 ∷ []; taken = 0 }; transaction = None }
+link4_3 = record { caller = Client true; to = Some 2; serving = true; streams = false; ask = record { left = []; taken = 0 }; tell = record { left = 98 ∷ []; taken = 0 }; transaction = None }
 
 abbrev pub links_38 : List (Link)
 links_38 = link0_7 ∷ link1_9 ∷ link2_3 ∷ link3_7 ∷ link4_3 ∷ []
@@ -552,7 +552,7 @@ abbrev pub moment_60 : World tiny
 moment_60 = record { node = look nodes_16; link = look links_38; book = look book_4 }
 
 abbrev pub link4_4 : Link
-link4_4 = record { caller = Client true; to = 2; serving = true; streams = false; ask = record { left = 11 ∷ []; taken = 0 }; tell = record { left = 98 ∷ []; taken = 0 }; transaction = None }
+link4_4 = record { caller = Client true; to = Some 2; serving = true; streams = false; ask = record { left = 11 ∷ []; taken = 0 }; tell = record { left = 98 ∷ []; taken = 0 }; transaction = None }
 
 abbrev pub links_39 : List (Link)
 links_39 = link0_7 ∷ link1_9 ∷ link2_3 ∷ link3_7 ∷ link4_4 ∷ []
@@ -561,7 +561,7 @@ abbrev pub moment_61 : World tiny
 moment_61 = record { node = look nodes_16; link = look links_39; book = look book_4 }
 
 abbrev pub link4_5 : Link
-link4_5 = record { caller = Client true; to = 2; serving = true; streams = false; ask = record { left = 11 ∷ []; taken = 1 }; tell = record { left = 98 ∷ []; taken = 0 }; transaction = None }
+link4_5 = record { caller = Client true; to = Some 2; serving = true; streams = false; ask = record { left = 11 ∷ []; taken = 1 }; tell = record { left = 98 ∷ []; taken = 0 }; transaction = None }
 
 abbrev pub links_40 : List (Link)
 links_40 = link0_7 ∷ link1_9 ∷ link2_3 ∷ link3_7 ∷ link4_5 ∷ []
@@ -576,7 +576,7 @@ abbrev pub nodes_17 : List (Node tiny)
 nodes_17 = node0_1 ∷ node1_7 ∷ node2_6 ∷ []
 
 abbrev pub link4_6 : Link
-link4_6 = record { caller = Client true; to = 2; serving = true; streams = false; ask = record { left = []; taken = 0 }; tell = record { left = 98 ∷ 98 ∷ []; taken = 0 }; transaction = None }
+link4_6 = record { caller = Client true; to = Some 2; serving = true; streams = false; ask = record { left = []; taken = 0 }; tell = record { left = 98 ∷ 98 ∷ []; taken = 0 }; transaction = None }
 
 abbrev pub links_41 : List (Link)
 links_41 = link0_7 ∷ link1_9 ∷ link2_3 ∷ link3_7 ∷ link4_6 ∷ []
@@ -591,7 +591,7 @@ abbrev pub moment_63 : World tiny
 moment_63 = record { node = look nodes_17; link = look links_41; book = look book_5 }
 
 abbrev pub link5_0 : Link
-link5_0 = record { caller = Client true; to = 0; serving = true; streams = false; ask = record { left = []; taken = 0 }; tell = record { left = []; taken = 0 }; transaction = None }
+link5_0 = record { caller = Client true; to = Some 0; serving = true; streams = false; ask = record { left = []; taken = 0 }; tell = record { left = []; taken = 0 }; transaction = None }
 
 abbrev pub links_42 : List (Link)
 links_42 = link0_7 ∷ link1_9 ∷ link2_3 ∷ link3_7 ∷ link4_6 ∷ link5_0 ∷ []
@@ -600,7 +600,7 @@ abbrev pub moment_64 : World tiny
 moment_64 = record { node = look nodes_17; link = look links_42; book = look book_5 }
 
 abbrev pub link5_1 : Link
-link5_1 = record { caller = Client true; to = 0; serving = true; streams = false; ask = record { left = 7 ∷ 0 ∷ []; taken = 0 }; tell = record { left = []; taken = 0 }; transaction = None }
+link5_1 = record { caller = Client true; to = Some 0; serving = true; streams = false; ask = record { left = 7 ∷ 0 ∷ []; taken = 0 }; tell = record { left = []; taken = 0 }; transaction = None }
 
 abbrev pub links_43 : List (Link)
 links_43 = link0_7 ∷ link1_9 ∷ link2_3 ∷ link3_7 ∷ link4_6 ∷ link5_1 ∷ []
@@ -609,7 +609,7 @@ abbrev pub moment_65 : World tiny
 moment_65 = record { node = look nodes_17; link = look links_43; book = look book_5 }
 
 abbrev pub link5_2 : Link
-link5_2 = record { caller = Client true; to = 0; serving = true; streams = false; ask = record { left = 7 ∷ 0 ∷ []; taken = 2 }; tell = record { left = []; taken = 0 }; transaction = None }
+link5_2 = record { caller = Client true; to = Some 0; serving = true; streams = false; ask = record { left = 7 ∷ 0 ∷ []; taken = 2 }; tell = record { left = []; taken = 0 }; transaction = None }
 
 abbrev pub links_44 : List (Link)
 links_44 = link0_7 ∷ link1_9 ∷ link2_3 ∷ link3_7 ∷ link4_6 ∷ link5_2 ∷ []
@@ -618,7 +618,7 @@ abbrev pub moment_66 : World tiny
 moment_66 = record { node = look nodes_17; link = look links_44; book = look book_5 }
 
 abbrev pub link5_3 : Link
-link5_3 = record { caller = Client true; to = 0; serving = true; streams = true; ask = record { left = []; taken = 0 }; tell = record { left = 2 ∷ 0 ∷ 2 ∷ 12 ∷ 1 ∷ 7 ∷ []; taken = 0 }; transaction = None }
+link5_3 = record { caller = Client true; to = Some 0; serving = true; streams = true; ask = record { left = []; taken = 0 }; tell = record { left = 2 ∷ 0 ∷ 2 ∷ 12 ∷ 1 ∷ 7 ∷ []; taken = 0 }; transaction = None }
 
 abbrev pub links_45 : List (Link)
 links_45 = link0_7 ∷ link1_9 ∷ link2_3 ∷ link3_7 ∷ link4_6 ∷ link5_3 ∷ []
@@ -627,7 +627,7 @@ abbrev pub moment_67 : World tiny
 moment_67 = record { node = look nodes_17; link = look links_45; book = look book_5 }
 
 abbrev pub link5_4 : Link
-link5_4 = record { caller = Client true; to = 0; serving = true; streams = true; ask = record { left = 10 ∷ []; taken = 0 }; tell = record { left = 2 ∷ 0 ∷ 2 ∷ 12 ∷ 1 ∷ 7 ∷ []; taken = 0 }; transaction = None }
+link5_4 = record { caller = Client true; to = Some 0; serving = true; streams = true; ask = record { left = 10 ∷ []; taken = 0 }; tell = record { left = 2 ∷ 0 ∷ 2 ∷ 12 ∷ 1 ∷ 7 ∷ []; taken = 0 }; transaction = None }
 
 abbrev pub links_46 : List (Link)
 links_46 = link0_7 ∷ link1_9 ∷ link2_3 ∷ link3_7 ∷ link4_6 ∷ link5_4 ∷ []
@@ -636,7 +636,7 @@ abbrev pub moment_68 : World tiny
 moment_68 = record { node = look nodes_17; link = look links_46; book = look book_5 }
 
 abbrev pub link5_5 : Link
-link5_5 = record { caller = Client true; to = 0; serving = true; streams = true; ask = record { left = 10 ∷ []; taken = 1 }; tell = record { left = 2 ∷ 0 ∷ 2 ∷ 12 ∷ 1 ∷ 7 ∷ []; taken = 0 }; transaction = None }
+link5_5 = record { caller = Client true; to = Some 0; serving = true; streams = true; ask = record { left = 10 ∷ []; taken = 1 }; tell = record { left = 2 ∷ 0 ∷ 2 ∷ 12 ∷ 1 ∷ 7 ∷ []; taken = 0 }; transaction = None }
 
 abbrev pub links_47 : List (Link)
 links_47 = link0_7 ∷ link1_9 ∷ link2_3 ∷ link3_7 ∷ link4_6 ∷ link5_5 ∷ []
@@ -645,7 +645,7 @@ abbrev pub moment_69 : World tiny
 moment_69 = record { node = look nodes_17; link = look links_47; book = look book_5 }
 
 abbrev pub link5_6 : Link
-link5_6 = record { caller = Client true; to = 0; serving = false; streams = true; ask = record { left = 10 ∷ []; taken = 1 }; tell = record { left = 2 ∷ 0 ∷ 2 ∷ 12 ∷ 1 ∷ 7 ∷ []; taken = 0 }; transaction = None }
+link5_6 = record { caller = Client true; to = Some 0; serving = false; streams = true; ask = record { left = 10 ∷ []; taken = 1 }; tell = record { left = 2 ∷ 0 ∷ 2 ∷ 12 ∷ 1 ∷ 7 ∷ []; taken = 0 }; transaction = None }
 
 abbrev pub links_48 : List (Link)
 links_48 = link0_7 ∷ link1_9 ∷ link2_3 ∷ link3_7 ∷ link4_6 ∷ link5_6 ∷ []
@@ -654,7 +654,7 @@ abbrev pub moment_70 : World tiny
 moment_70 = record { node = look nodes_17; link = look links_48; book = look book_5 }
 
 abbrev pub link1_14 : Link
-link1_14 = record { caller = Peer 1; to = 0; serving = false; streams = true; ask = record { left = []; taken = 0 }; tell = record { left = []; taken = 0 }; transaction = None }
+link1_14 = record { caller = Peer 1; to = Some 0; serving = false; streams = true; ask = record { left = []; taken = 0 }; tell = record { left = []; taken = 0 }; transaction = None }
 
 abbrev pub links_49 : List (Link)
 links_49 = link0_7 ∷ link1_14 ∷ link2_3 ∷ link3_7 ∷ link4_6 ∷ link5_6 ∷ []
@@ -675,7 +675,7 @@ abbrev pub moment_73 : World tiny
 moment_73 = record { node = look nodes_18; link = look links_49; book = look book_5 }
 
 abbrev pub link0_8 : Link
-link0_8 = record { caller = Client false; to = 0; serving = false; streams = false; ask = record { left = 0 ∷ []; taken = 1 }; tell = record { left = 96 ∷ 95 ∷ []; taken = 0 }; transaction = None }
+link0_8 = record { caller = Client false; to = Some 0; serving = false; streams = false; ask = record { left = 0 ∷ []; taken = 1 }; tell = record { left = 96 ∷ 95 ∷ []; taken = 0 }; transaction = None }
 
 abbrev pub links_50 : List (Link)
 links_50 = link0_8 ∷ link1_14 ∷ link2_3 ∷ link3_7 ∷ link4_6 ∷ link5_6 ∷ []
@@ -684,7 +684,7 @@ abbrev pub moment_74 : World tiny
 moment_74 = record { node = look nodes_18; link = look links_50; book = look book_5 }
 
 abbrev pub link6_0 : Link
-link6_0 = record { caller = Client true; to = 0; serving = true; streams = false; ask = record { left = []; taken = 0 }; tell = record { left = []; taken = 0 }; transaction = None }
+link6_0 = record { caller = Client true; to = Some 0; serving = true; streams = false; ask = record { left = []; taken = 0 }; tell = record { left = []; taken = 0 }; transaction = None }
 
 abbrev pub links_51 : List (Link)
 links_51 = link0_8 ∷ link1_14 ∷ link2_3 ∷ link3_7 ∷ link4_6 ∷ link5_6 ∷ link6_0 ∷ []
@@ -693,7 +693,7 @@ abbrev pub moment_75 : World tiny
 moment_75 = record { node = look nodes_18; link = look links_51; book = look book_5 }
 
 abbrev pub link6_1 : Link
-link6_1 = record { caller = Client true; to = 0; serving = true; streams = false; ask = record { left = 10 ∷ []; taken = 0 }; tell = record { left = []; taken = 0 }; transaction = None }
+link6_1 = record { caller = Client true; to = Some 0; serving = true; streams = false; ask = record { left = 10 ∷ []; taken = 0 }; tell = record { left = []; taken = 0 }; transaction = None }
 
 abbrev pub links_52 : List (Link)
 links_52 = link0_8 ∷ link1_14 ∷ link2_3 ∷ link3_7 ∷ link4_6 ∷ link5_6 ∷ link6_1 ∷ []
@@ -702,7 +702,7 @@ abbrev pub moment_76 : World tiny
 moment_76 = record { node = look nodes_18; link = look links_52; book = look book_5 }
 
 abbrev pub link6_2 : Link
-link6_2 = record { caller = Client true; to = 0; serving = true; streams = false; ask = record { left = 10 ∷ []; taken = 1 }; tell = record { left = []; taken = 0 }; transaction = None }
+link6_2 = record { caller = Client true; to = Some 0; serving = true; streams = false; ask = record { left = 10 ∷ []; taken = 1 }; tell = record { left = []; taken = 0 }; transaction = None }
 
 abbrev pub links_53 : List (Link)
 links_53 = link0_8 ∷ link1_14 ∷ link2_3 ∷ link3_7 ∷ link4_6 ∷ link5_6 ∷ link6_2 ∷ []
@@ -738,7 +738,7 @@ abbrev pub nodes_21 : List (Node tiny)
 nodes_21 = node0_3 ∷ node1_8 ∷ node2_7 ∷ []
 
 abbrev pub link6_3 : Link
-link6_3 = record { caller = Client true; to = 0; serving = false; streams = false; ask = record { left = 10 ∷ []; taken = 1 }; tell = record { left = []; taken = 0 }; transaction = None }
+link6_3 = record { caller = Client true; to = Some 0; serving = false; streams = false; ask = record { left = 10 ∷ []; taken = 1 }; tell = record { left = []; taken = 0 }; transaction = None }
 
 abbrev pub links_54 : List (Link)
 links_54 = link0_8 ∷ link1_14 ∷ link2_3 ∷ link3_7 ∷ link4_6 ∷ link5_6 ∷ link6_3 ∷ []

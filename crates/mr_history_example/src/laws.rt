@@ -1,6 +1,8 @@
 //! What the story shows. No function here does anything.
 ghost use Rattle.mr_history.specs.Promises.{NoSilentDifference};
 ghost use Rattle.mr_history.specs.Runs.{Moments, nowhere};
+ghost use Rattle.mr_history_example.specs.LateAccept.{IsAnsweredLate};
+ghost use Rattle.mr_history_example.specs.LateAccept as late_accept;
 ghost use Rattle.mr_history_example.specs.Story.{EndsLevel, events, moments};
 ghost use Rattle.mr_history_example.specs.Tiny.{tiny};
 ghost use Rattle.mr_history_example.specs.Transfer.{ActsAtItsEnd};
@@ -41,6 +43,17 @@ pub fn a_transaction_is_a_run()
 /// Nothing of it shows before its end, and all of it at once then.
 pub fn a_transaction_acts_at_its_end()
     ensures { ActsAtItsEnd }
+{}
+
+/// Links wait: one is accepted after a client's command, one after its replica has closed it, and one by the replica itself. That is a
+/// run.
+pub fn late_accepts_are_a_run()
+    ensures { Moments (nowhere tiny) late_accept.events late_accept.moments }
+{}
+
+/// Of the command nothing is sent on the link that waits; the line that stands on it is answered once the master has accepted it.
+pub fn a_late_accept_is_answered()
+    ensures { IsAnsweredLate }
 {}
 
 /// The headline of every language is that of the tiny one.

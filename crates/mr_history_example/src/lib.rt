@@ -1,5 +1,6 @@
-//! For tests: that there are runs. A tiny language, and three runs told in it, event by event: a snapshot, a stream, a promotion, and a
-//! return of the old master that goes on from where it stands; one in which much goes wrong; and one with a transaction.
+//! For tests: that there are runs. A tiny language, and four runs told in it, event by event: a snapshot, a stream, a promotion, and a
+//! return of the old master that goes on from where it stands; one in which much goes wrong; one with a transaction; and one in which
+//! links wait to be accepted.
 #![tactic(auto)]
 
 ghost use Rattle.mr_history_example.specs.Tiny.{tiny};
