@@ -21,7 +21,7 @@ use Rattle.mr_seen.specs.Books.{entry_of, IsKeptAs, IsBook, begun}
 use Rattle.mr_seen.specs.Carrying.{shut_if, begun_slot}
 use Rattle.mr_seen.specs.Events.{StartsAreRows, RestartsAreRows, EventsKeepHistories, WorldsBegin}
 use Rattle.mr_seen.proofs.Seen.{put_at, push_at, none_at_end, is_seen, same_each}
-use Rattle.mr_seen.proofs.Places.{push_none, push_old}
+use Rattle.mr_seen.proofs.Places.{push_none, push_old, some_is}
 use Rattle.mr_seen.proofs.Reading.{set_as}
 use Rattle.mr_seen.proofs.Open.{elsewhere, eqb_yes}
 use Rattle.mr_seen.proofs.Keeping.{entry_push, kept_on, is_none, with_history, set_history}
@@ -51,7 +51,7 @@ starts w book as_replica port backlog id file holds none = record {
     unnamed = λ l k e q.
         let x = is_seen (seen_link w.slots) (slice_get w.links l) k e in
         let h = holds.world.servers l x.0 x.1 in
-        let z : None ≡ Some h.slot = sym (push_none w.slots) ∙ (ap (slice_get w.slots) (sym q ∙ ap (λ z. z.to) (sym x.2)) ∙ h.found) in absurd (cc);
+        let z : None ≡ Some h.slot = sym (push_none w.slots) ∙ (ap (slice_get w.slots) (some_is (length w.slots) x.0.to (sym q ∙ ap (λ z. z.to) (sym x.2))) ∙ h.found) in absurd (cc);
     nodes = push_at seen_node w.slots (begun_slot as_replica port backlog id empty file);
     links = same_each (seen_link w.slots) (seen_link (w.slots ++ begun_slot as_replica port backlog id empty file ∷ [])) w.links (λ j k e.
         let h = holds.world.servers j k e in
@@ -89,10 +89,10 @@ restarts w book n s as_replica port backlog id found kept start m holds at role 
     nothing None e = refl
     nothing (Some x) e = absurd (cc)
 
-    closed : (o : Option Link) (k : history.Link) → option_map (seen_link w.slots) o ≡ Some k → option_map new (option_map (λ k. shut_if (k.to == n) k) o) ≡ Some (history.shut (k.to == n) k)
+    closed : (o : Option Link) (k : history.Link) → option_map (seen_link w.slots) o ≡ Some k → option_map new (option_map (λ k. shut_if (k.to == n) k) o) ≡ Some (history.shut (history.is_to n k.to) k)
     closed None k e = absurd (cc)
     closed (Some x) k e = let same : seen_link w.slots x ≡ k = cc in
-        ap (λ z. Some z) (shut_seen w.slots n s (begun_slot as_replica port backlog id m kept) x at (x.to == n) refl) ∙ ap (λ (z : history.Link). Some (history.shut (z.to == n) z)) same
+        ap (λ z. Some z) (shut_seen w.slots n s (begun_slot as_replica port backlog id m kept) x at (x.to == n) refl) ∙ ap (λ (z : history.Link). Some (history.shut (history.is_to n z.to) z)) same
 
 pub kept_histories : EventsKeepHistories
 kept_histories w book e v holds x = row_keeps minired_laws (seen w book) e (seen v x.new_book) holds.invariant x.row

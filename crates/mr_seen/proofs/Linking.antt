@@ -44,7 +44,7 @@ opens w book n s name b holds runs r = record {
     found = ap (option_map seen_node) runs.at;
     does = acts runs.up (rows.Opens.opens (length w.links) (none_at_end (seen_link w.slots) w.links) (record {
       nodes = still_at seen_node w.slots n (record s { node = b }) s runs.at (ap (λ z. seen_node (record s { node = z })) r.node);
-      links = set_as (λ j. option_map (seen_link w.slots) (slice_get w.links j)) (λ j. option_map new (slice_get (w.links ++ opened_link n name ∷ []) j)) (length w.links) (new (opened_link n name)) (rows.fresh_link (Client true) n [])
+      links = set_as (λ j. option_map (seen_link w.slots) (slice_get w.links j)) (λ j. option_map new (slice_get (w.links ++ opened_link n name ∷ []) j)) (length w.links) (new (opened_link n name)) (rows.fresh_link (Client true) (Some n) [])
           (push_by (seen_link w.slots) new w.links (opened_link n name)
           (all_seen w holds.world n s runs.at runs.up (record s { node = b }) (keeps_opened s.node b name (client []) r.fresh (ap (λ (z : NodeState). z.core.up) r.node) (ap (λ (z : NodeState). z.ends) r.node))))
           (ap (λ o. link_with o (opened_link n name)) none_open);
@@ -92,7 +92,7 @@ dials w book n m s t name at b c outs holds runs o there up r =
           request = outs.reply;
           asks = subst (λ z. IsAsked None z Handshake) (sym line) ping_asks;
           nodes = (put.0 ∙ ap (λ z. Some (seen_node (record s { node = z; dialled = length w.links }))) r.node, λ j ne. put.1 j ne ∙ still j);
-          links = set_as (λ j. option_map (seen_link w.slots) (slice_get w.links j)) (λ j. option_map (seen_link last) (slice_get (w.links ++ new ∷ []) j)) (length w.links) (seen_link last new) (rows.fresh_link (Peer n) m outs.reply)
+          links = set_as (λ j. option_map (seen_link w.slots) (slice_get w.links j)) (λ j. option_map (seen_link last) (slice_get (w.links ++ new ∷ []) j)) (length w.links) (seen_link last new) (rows.fresh_link (Peer n) (Some m) outs.reply)
               (push_by (seen_link w.slots) (seen_link last) w.links new (λ j k found. ap (λ z. link_with z k) (second j k found ∙ first j k found))) (ap (λ z. link_with z new) none_open);
           book = λ i. refl;
         })));
@@ -172,7 +172,7 @@ server_feeds w book l k s count bytes b holds served few r =
       new_book = book;
       kept = holds.kept;
       row = record {
-        at = record { link = seen_link w.slots k; found = ap (option_map (seen_link w.slots)) served.found; serving = served.serving; node = seen_node s; node_found = ap (option_map seen_node) served.at };
+        at = record { link = seen_link w.slots k; found = ap (option_map (seen_link w.slots)) served.found; n = k.to; to = refl; serving = served.serving; node = seen_node s; node_found = ap (option_map seen_node) served.at };
         sent = more_left k.ask count way few;
         does = acts served.up (record {
           nodes = still_at seen_node w.slots k.to (record s { node = b }) s served.at
@@ -265,7 +265,7 @@ server_breaks w book l k s b holds served is =
       new_book = book;
       kept = holds.kept;
       row = record {
-        at = record { link = seen_link w.slots k; found = ap (option_map (seen_link w.slots)) served.found; serving = served.serving; node = seen_node s; node_found = ap (option_map seen_node) served.at };
+        at = record { link = seen_link w.slots k; found = ap (option_map (seen_link w.slots)) served.found; n = k.to; to = refl; serving = served.serving; node = seen_node s; node_found = ap (option_map seen_node) served.at };
         does = acts served.up (record {
           nodes = still_at seen_node w.slots k.to (record s { node = b }) s served.at
               (ap (λ z. seen_node (record s { node = z })) is ∙ ap (λ z. record (seen_node s) { follow = z }) (follow_stays s.node s.dialled k.name k.streams here.0 (unread k.ask) s.node.follow sound.node.followed here.1));

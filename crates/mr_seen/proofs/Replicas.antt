@@ -123,7 +123,7 @@ waits_hopeful u w d = let c = w.more in d.never c.more (u ++ c.more) [] c.whole 
 
 module _ (w : WorldState) (book : Book minired) (l : ℕ) (k : Link) (s : Slot) (given : Given) (fresh : List ℕ) (b : NodeState) (outs : OutsState) (holds : Holds w book) (served : IsServed w l k s) where
   -- ---- nothing is given out
-  event : ServerRow (seen w book) (seen (put_node w k.to s b) book) l (seen_link w.slots k) (seen_node s) given fresh → IsEvent w book (events.Event.Step l Server given fresh) (put_node w k.to s b)
+  event : ServerRow (seen w book) (seen (put_node w k.to s b) book) k.to l (seen_link w.slots k) (seen_node s) given fresh → IsEvent w book (events.Event.Step l Server given fresh) (put_node w k.to s b)
   event row = steps.event w book l k s given fresh b outs holds served (put_node w k.to s b) book holds.kept row
 
   pub idles : Idles s.node (unread k.ask) b → IsEvent w book (events.Event.Step l Server given fresh) (put_node w k.to s b)
@@ -146,7 +146,7 @@ module _ (w : WorldState) (book : Book minired) (l : ℕ) (k : Link) (s : Slot) 
     held : open_on w.slots k ≡ None
     held = at_replica w holds.world l k s served streams
 
-    done : Quiet w book l k s given fresh b outs holds served apart → ServerRow (seen w book) (seen (steps.V w book l k s given fresh b outs holds served) book) l (seen_link w.slots k) (seen_node s) given fresh
+    done : Quiet w book l k s given fresh b outs holds served apart → ServerRow (seen w book) (seen (steps.V w book l k s given fresh b outs holds served) book) k.to l (seen_link w.slots k) (seen_node s) given fresh
         → IsEvent w book (events.Event.Step l Server given fresh) (steps.V w book l k s given fresh b outs holds served)
     done q x = steps.event w book l k s given fresh b outs holds served (steps.V w book l k s given fresh b outs holds served) book (steps.quiet_book w book l k s given fresh b outs holds served apart q) x
 

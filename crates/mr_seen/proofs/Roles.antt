@@ -95,7 +95,7 @@ module _ (w : WorldState) (book : Book minired) (l : ℕ) (k : Link) (s : Slot) 
     said : outs.reply ≡ r.text
     said = ap (λ (o : OutsState). o.reply) r.outs_are
 
-    event : ServerRow (seen w book) (seen (steps.V w book l k s given fresh b outs holds served) book) l (seen_link w.slots k) (seen_node s) given fresh → Event
+    event : ServerRow (seen w book) (seen (steps.V w book l k s given fresh b outs holds served) book) k.to l (seen_link w.slots k) (seen_node s) given fresh → Event
     event x = steps.event w book l k s given fresh b outs holds served (steps.V w book l k s given fresh b outs holds served) book (steps.quiet_book w book l k s given fresh b outs holds served apart quiet) x
 
     becomes : (bytes : List ℕ) → outs.reply ≡ bytes

@@ -80,12 +80,12 @@ module _ (w : WorldState) (book : Book minired) (l : ℕ) (k : Link) (s : Slot) 
   pub sound : IsSound s.node
   sound = holds.world.nodes k.to s served.at served.up
 
-  pub event : (v : WorldState) (new_book : Book minired) → IsBook v.book new_book → ServerRow (seen w book) (seen v new_book) l (seen_link w.slots k) (seen_node s) given fresh → IsEvent w book (events.Event.Step l Server given fresh) v
+  pub event : (v : WorldState) (new_book : Book minired) → IsBook v.book new_book → ServerRow (seen w book) (seen v new_book) k.to l (seen_link w.slots k) (seen_node s) given fresh → IsEvent w book (events.Event.Step l Server given fresh) v
   event v new_book kept row = record {
     new_book = new_book;
     kept = kept;
     row = record {
-      at = record { link = seen_link w.slots k; found = ap (option_map (seen_link w.slots)) served.found; serving = served.serving; node = seen_node s; node_found = ap (option_map seen_node) served.at };
+      at = record { link = seen_link w.slots k; found = ap (option_map (seen_link w.slots)) served.found; n = k.to; to = refl; serving = served.serving; node = seen_node s; node_found = ap (option_map seen_node) served.at };
       does = acts served.up row;
     };
   }

@@ -25,9 +25,9 @@ module _ (w : WorldState) (n : ℕ) (s : Slot) (b : NodeState) (at : slice_get w
   none_there None e = refl
   none_there (Some k) e = absurd (cc)
 
-  some_there : (o : Option Link) (x : history.Link) → option_map (seen_link w.slots) o ≡ Some x → option_map (seen_link after) o ≡ Some (history.dropped (x.to == n) x)
+  some_there : (o : Option Link) (x : history.Link) → option_map (seen_link w.slots) o ≡ Some x → option_map (seen_link after) o ≡ Some (history.dropped (history.is_to n x.to) x)
   some_there None x e = absurd (cc)
-  some_there (Some k) x e = let same : seen_link w.slots k ≡ x = cc in ap (λ z. Some z) (dropped_seen k) ∙ ap (λ (z : history.Link). Some (history.dropped (z.to == n) z)) same
+  some_there (Some k) x e = let same : seen_link w.slots k ≡ x = cc in ap (λ z. Some z) (dropped_seen k) ∙ ap (λ (z : history.Link). Some (history.dropped (history.is_to n z.to) z)) same
 
 pub node_stops : (w : WorldState) (book : Book minired) (n : ℕ) (s : Slot) (b : NodeState) → slice_get w.slots n ≡ Some s → b.core.up ≡ false → Stops (seen w book) (seen (put_node w n s b) book) n (seen_node s)
 node_stops w book n s b at down = record {

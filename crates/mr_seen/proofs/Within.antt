@@ -175,7 +175,7 @@ module _ (w : WorldState) (book : Book minired) (l : ℕ) (k : Link) (s : Slot) 
   window : IsWindow s.node.core.lineage.stream
   window = (steps.sound w book l k s given fresh b outs holds served).window
 
-  event : ServerRow (seen w book) (seen (steps.V w book l k s given fresh b outs holds served) book) l (seen_link w.slots k) (seen_node s) given fresh → IsQuietStep → Event
+  event : ServerRow (seen w book) (seen (steps.V w book l k s given fresh b outs holds served) book) k.to l (seen_link w.slots k) (seen_node s) given fresh → IsQuietStep → Event
   event row q = steps.event w book l k s given fresh b outs holds served (steps.V w book l k s given fresh b outs holds served) book (steps.quiet_book w book l k s given fresh b outs holds served apart q) row
 
   -- ---- a command

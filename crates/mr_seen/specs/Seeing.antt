@@ -78,7 +78,7 @@ open_on slots k = cond k.serving (open_at (slice_get slots k.to) k.name) None
 
 -- a link on which this is open
 abbrev pub link_with : Option Transaction → Link → history.Link
-link_with within k = record { caller = seen_caller k.caller; to = k.to; serving = k.serving; streams = k.streams; ask = seen_way k.ask; tell = seen_way k.tell; transaction = within }
+link_with within k = record { caller = seen_caller k.caller; to = Some k.to; serving = k.serving; streams = k.streams; ask = seen_way k.ask; tell = seen_way k.tell; transaction = within }
 
 abbrev pub seen_link : List Slot → Link → history.Link
 seen_link slots k = link_with (open_on slots k) k
