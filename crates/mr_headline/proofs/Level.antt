@@ -1,5 +1,5 @@
 -- A replica whose link is caught up stands where its master does.
-use Rattle.std.proofs.Common.{None, Some, ap, ◌∙◌, arith}
+use Rattle.std.proofs.Common.{None, Some, refl, ap, ◌∙◌, arith}
 use Rattle.std.specs.Option.{option_map}
 use Rattle.std.proofs.lemmas.List.{length-drop}
 use Rattle.mr_history.proofs.Theorem.{caught_up}
