@@ -132,8 +132,8 @@ fn first_candidate(pattern: &[u8], text: &[u8]) -> Option<usize>
 
 /// A place before which no rest of the text begins that the pattern matches. None where no rest does.
 ///
-/// In a text of 64 bytes and more it is the first from which on the parts before the first `*` take the bytes. To find it takes time
-/// that is linear where each byte of the parts stands for itself, and else a step for each part and 64 bytes of the text.
+/// In a text of 64 bytes and more it is searched for. In a shorter one it is the first place, without a call: most texts are short.
+#[inline(always)]
 pub(super) fn next_place(pattern: &[u8], text: &[u8]) -> Option<usize>
     ensures { MatchOption result (somewhere pattern.now text.now ≡ false)
         (Skips pattern.now text.now) }
@@ -141,6 +141,18 @@ pub(super) fn next_place(pattern: &[u8], text: &[u8]) -> Option<usize>
     if text.len() < WINDOW {
         return Some(0);
     }
+    searched_place(pattern, text)
+}
+
+/// The first place from which on the parts before the pattern's first `*` take the bytes of the text.
+///
+/// To find it takes time that is linear where each byte of the parts stands for itself, and else a step for each part and 64 bytes of
+/// the text.
+#[inline(never)]
+fn searched_place(pattern: &[u8], text: &[u8]) -> Option<usize>
+    ensures { MatchOption result (somewhere pattern.now text.now ≡ false)
+        (Skips pattern.now text.now) }
+{
     let segment = first_segment(pattern);
     if segment.len > text.len() {
         return None;

@@ -1,6 +1,6 @@
 use Rattle.std.proofs.Common.{arith}
 use Rattle.mr_glob.proofs.PlaceLemmas.{too_short, at_end, plain_place}
-use Rattle.mr_glob.proofs.pattern.place.next_place.Goals as goal
+use Rattle.mr_glob.proofs.pattern.place.searched_place.Goals as goal
 
 pub returns-then-segment-text : goal.returns-then-segment-text
 returns-then-segment-text c = too_short c.args.pattern.now c.args.text.now _ c.first_segment-segment.ensures (omega arith)
