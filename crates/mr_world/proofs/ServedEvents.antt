@@ -46,7 +46,7 @@ module _ (w : WorldState) (book : Book minired) (l : ℕ) (given : Given) (fresh
     new_book = book;
     kept = holds.kept;
     row = record {
-      at = record { link = seen_link w.slots k; found = ap (option_map (seen_link w.slots)) at.found; serving = at.serving; node = seen_node down.slot; node_found = ap (option_map seen_node) down.at };
+      at = record { link = seen_link w.slots k; found = ap (option_map (seen_link w.slots)) at.found; n = k.to; to = refl; serving = at.serving; node = seen_node down.slot; node_found = ap (option_map seen_node) down.at };
       does = stopped down.down (record { nodes = λ i. refl; links = λ j. refl; book = λ i. refl });
     };
   }
