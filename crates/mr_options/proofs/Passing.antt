@@ -15,7 +15,7 @@ use Rattle.clap.specs.declared.builder.value_parser.ValueParser.TheVariants as v
 use Rattle.clap.specs.declared.error.kind.ErrorKind.TheVariants.{MissingRequiredArgument}
 use Rattle.mr_options.specs.Lines.{line, pipe_line, serve_line, trio_line, world_line}
 use Rattle.mr_options.specs.Outcomes.{IsLineOf, IsPipeLine, IsServeLine, IsWorldLine}
-use Rattle.mr_options.specs.Values.{PipeNumbersPass, ServeNumbersPass, WorldNumbersPass, usual_timeout, usual_turns}
+use Rattle.mr_options.specs.Values.{PipeNumbersPass, ServeNumbersPass, WorldNumbersPass, usual_clients, usual_idle, usual_keepalive, usual_timeout, usual_turns}
 use Rattle.mr_repl.specs.Backlog.{usual_backlog}
 use Rattle.mr_options.proofs.Ranges.{number_given, number_there}
 use Rattle.mr_options.proofs.Rows.{AreOptions, Each, IsKnown, RowsFine, first_none, one_valued, option_known, second_none, settled_fine, some_of}
@@ -84,14 +84,14 @@ are_pipe = record {
 
 abbrev serve_rules : List Rule
 serve_rules =
-    one_valued (codes "port") (vp.Unsigned 1 65535) true ∷ one_valued (codes "aof") vp.String false ∷ one_valued (codes "sync") vp.String false ∷ one_valued (codes "turns") (vp.Unsigned 0 (2 ^ 64 - 1)) false ∷ one_valued (codes "backlog") (vp.Unsigned 1 (2 ^ 30)) false ∷ one_valued (codes "replicaof") vp.String false ∷ one_valued (codes "bind") vp.String false ∷ one_valued (codes "repl-timeout") (vp.Unsigned 1 86400) false ∷ []
+    one_valued (codes "port") (vp.Unsigned 1 65535) true ∷ one_valued (codes "aof") vp.String false ∷ one_valued (codes "sync") vp.String false ∷ one_valued (codes "turns") (vp.Unsigned 0 (2 ^ 64 - 1)) false ∷ one_valued (codes "backlog") (vp.Unsigned 1 (2 ^ 30)) false ∷ one_valued (codes "replicaof") vp.String false ∷ one_valued (codes "bind") vp.String false ∷ one_valued (codes "repl-timeout") (vp.Unsigned 11 86400) false ∷ one_valued (codes "timeout") (vp.Unsigned 0 2147483647) false ∷ one_valued (codes "tcp-keepalive") (vp.Unsigned 0 32767) false ∷ one_valued (codes "maxclients") (vp.Unsigned 1 1000000) false ∷ []
 
 abbrev serve_shape : Shape
 serve_shape = built_leaf (inherited (built line).top serve_line.top)
 
 are_serve : AreOptions serve_rules
 are_serve = record {
-  all = (option_known refl, (option_known refl, (option_known refl, (option_known refl, (option_known refl, (option_known refl, (option_known refl, (option_known refl, tt))))))));
+  all = (option_known refl, (option_known refl, (option_known refl, (option_known refl, (option_known refl, (option_known refl, (option_known refl, (option_known refl, (option_known refl, (option_known refl, (option_known refl, tt)))))))))));
   no_short = λ x. refl;
   no_index = λ i. refl;
 }
@@ -185,7 +185,10 @@ serve_numbers words rows h = elim (line_passes (codes "serve") words rows h) [
         port = number_given serve_rules (codes "port") 1 65535 true rows refl passed.fine (port_given rows passed.checked);
         turns = (turns.0, turns.1.2);
         backlog = number_there serve_rules (codes "backlog") 1 (2 ^ 30) false rows refl passed.fine usual_backlog (omega arith) (omega arith);
-        timeout = number_there serve_rules (codes "repl-timeout") 1 86400 false rows refl passed.fine usual_timeout (omega arith) (omega arith);
+        timeout = number_there serve_rules (codes "repl-timeout") 11 86400 false rows refl passed.fine usual_timeout (omega arith) (omega arith);
+        idle_timeout = number_there serve_rules (codes "timeout") 0 2147483647 false rows refl passed.fine usual_idle (omega arith) (omega arith);
+        keepalive = number_there serve_rules (codes "tcp-keepalive") 0 32767 false rows refl passed.fine usual_keepalive (omega arith) (omega arith);
+        most_clients = number_there serve_rules (codes "maxclients") 1 1000000 false rows refl passed.fine usual_clients (omega arith) (omega arith);
       }
 ]
 

@@ -24,22 +24,29 @@ pipe_line =
     (number_rule (codes "word") 0 (2 ^ 64 - 1)))
     (text_rule (codes "aof"))
 
--- `serve --port P [--aof PATH] [--sync MODE] [--turns N] [--backlog N] [--replicaof HOST:PORT] [--bind ADDRESS] [--repl-timeout N]`
+-- the options of `serve` of its node, its file and its end: `--port P [--aof PATH] [--sync MODE] [--turns N] [--backlog N]`
+abbrev pub node_line : App
+node_line =
+    with_rule
+    (with_rule
+    (with_rule
+    (with_rule (with_rule (new_app (codes "serve")) (needed (number_rule (codes "port") 1 65535))) (text_rule (codes "aof")))
+    (text_rule (codes "sync")))
+    (number_rule (codes "turns") 0 (2 ^ 64 - 1)))
+    (number_rule (codes "backlog") 1 (2 ^ 30))
+
+-- .. and those of its links: `[--replicaof HOST:PORT] [--bind ADDRESS] [--repl-timeout N] [--timeout N] [--tcp-keepalive N] [--maxclients N]`
 abbrev pub serve_line : App
 serve_line =
     with_rule
     (with_rule
     (with_rule
     (with_rule
-    (with_rule
-    (with_rule
-    (with_rule (with_rule (new_app (codes "serve")) (needed (number_rule (codes "port") 1 65535))) (text_rule (codes "aof")))
-    (text_rule (codes "sync")))
-    (number_rule (codes "turns") 0 (2 ^ 64 - 1)))
-    (number_rule (codes "backlog") 1 (2 ^ 30)))
-    (text_rule (codes "replicaof")))
-    (text_rule (codes "bind")))
-    (number_rule (codes "repl-timeout") 1 86400)
+    (with_rule (with_rule node_line (text_rule (codes "replicaof"))) (text_rule (codes "bind")))
+    (number_rule (codes "repl-timeout") 11 86400))
+    (number_rule (codes "timeout") 0 2147483647))
+    (number_rule (codes "tcp-keepalive") 0 32767))
+    (number_rule (codes "maxclients") 1 1000000)
 
 -- `trio`, which has no options
 abbrev pub trio_line : App

@@ -29,6 +29,18 @@ usual_turns = 1000000000000
 abbrev pub usual_timeout : ℕ
 usual_timeout = 60
 
+-- a client may ask nothing for so many seconds, where the line doesn't say: 0 stands for ever
+abbrev pub usual_idle : ℕ
+usual_idle = 0
+
+-- the system asks for a peer that was silent for so many seconds, where the line doesn't say
+abbrev pub usual_keepalive : ℕ
+usual_keepalive = 300
+
+-- so many peers may have a link at once, where the line doesn't say: the most that it may name
+abbrev pub usual_clients : ℕ
+usual_clients = 1000000
+
 -- the number whose text this is, or the usual one where there is none
 abbrev pub IsNumber : Option Text → ℕ → ℕ → Type 0
 IsNumber None usual n = n ≡ usual
@@ -117,6 +129,9 @@ pub record AreServeOf (rows : List Row) (options : ServeOptions) : Type 0 where
   pub master : HasMaster rows options.master
   pub bind : HasAddress rows options.bind
   pub timeout : HasNumber rows (codes "repl-timeout") usual_timeout options.timeout
+  pub idle_timeout : HasNumber rows (codes "timeout") usual_idle options.idle_timeout
+  pub keepalive : HasNumber rows (codes "tcp-keepalive") usual_keepalive options.keepalive
+  pub most_clients : HasNumber rows (codes "maxclients") usual_clients options.most_clients
 
 -- the value of the option of `world`, which the line names, or else the usual one
 abbrev pub AreWorldOf : List Row → WorldOptions → Type 0
@@ -127,13 +142,16 @@ pub record PipeNumbersPass (rows : List Row) : Type 0 where
   pub now : (n : ℕ) × ((n ≤ 2 ^ 61) × HasNumber rows (codes "now") 0 n)
   pub word : (n : ℕ) × HasNumber rows (codes "word") 0 n
 
--- the parser lets through a port within its range, and never none; a number of turns, or none; and a backlog and a timeout
--- within their ranges, or none
+-- the parser lets through a port within its range, and never none; a number of turns, or none; and a backlog, timeouts and a
+-- number of clients within their ranges, or none
 pub record ServeNumbersPass (rows : List Row) : Type 0 where
   pub port : (n : ℕ) × ((1 ≤ n) × (n ≤ 65535) × NamesNumber rows (codes "port") n)
   pub turns : (n : ℕ) × HasNumber rows (codes "turns") usual_turns n
   pub backlog : (n : ℕ) × ((1 ≤ n) × (n ≤ 2 ^ 30) × HasNumber rows (codes "backlog") usual_backlog n)
-  pub timeout : (n : ℕ) × ((1 ≤ n) × (n ≤ 86400) × HasNumber rows (codes "repl-timeout") usual_timeout n)
+  pub timeout : (n : ℕ) × ((11 ≤ n) × (n ≤ 86400) × HasNumber rows (codes "repl-timeout") usual_timeout n)
+  pub idle_timeout : (n : ℕ) × ((0 ≤ n) × (n ≤ 2147483647) × HasNumber rows (codes "timeout") usual_idle n)
+  pub keepalive : (n : ℕ) × ((0 ≤ n) × (n ≤ 32767) × HasNumber rows (codes "tcp-keepalive") usual_keepalive n)
+  pub most_clients : (n : ℕ) × ((1 ≤ n) × (n ≤ 1000000) × HasNumber rows (codes "maxclients") usual_clients n)
 
 -- the parser lets through a backlog within its range, or none
 abbrev pub WorldNumbersPass : List Row → Type 0
@@ -144,7 +162,9 @@ abbrev pub IsInRange : Options → Type 0
 IsInRange (Pipe options) = (pos 0 ≤ℤ options.now) × (options.now ≤ℤ pos (2 ^ 61)) × (options.word < 2 ^ 64)
 IsInRange (Serve options) =
     (1 ≤ options.port) × (options.port ≤ 65535) × (options.turns < 2 ^ 64) × (1 ≤ options.backlog) × (options.backlog ≤ 2 ^ 30)
-    × IfSome options.master (λ master. IsPort master.port) × (1 ≤ options.timeout) × (options.timeout ≤ 86400)
+    × IfSome options.master (λ master. IsPort master.port) × (11 ≤ options.timeout) × (options.timeout ≤ 86400)
+    × (options.idle_timeout ≤ 2147483647) × (options.keepalive ≤ 32767)
+    × (1 ≤ options.most_clients) × (options.most_clients ≤ 1000000)
 IsInRange Trio = Unit {0}
 IsInRange (World options) = (1 ≤ options.backlog) × (options.backlog ≤ 2 ^ 30)
 

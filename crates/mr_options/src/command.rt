@@ -2,8 +2,9 @@
 ghost use Rattle.std.specs.Prelude.{◌≡◌, IfOk, false};
 ghost use Rattle.clap.specs.declared.builder.command.Command.TheViews.{out-Command};
 ghost use Rattle.clap.specs.Words.{app_of, rule_of, with_rule, with_subcommand};
-ghost use Rattle.mr_options.specs.Lines.{bare, line, needed, number_rule, pipe_line, serve_line, text_rule, trio_line, world_line};
+ghost use Rattle.mr_options.specs.Lines.{bare, line, needed, node_line, number_rule, pipe_line, serve_line, text_rule, trio_line, world_line};
 
+use crate::line::MOST_CLIENTS;
 use clap::builder::ValueParser;
 use clap::{Arg, Command};
 use mr_repl::MOST_BACKLOG;
@@ -15,8 +16,17 @@ const MOST_NOW: u64 = 1 << 61;
 /// The greatest port.
 const MOST_PORT: u64 = 65_535;
 
+/// The shortest time that a peer of replication may be silent, in seconds: a master says something every 10 seconds.
+const LEAST_TIMEOUT: u64 = 11;
+
 /// The longest time that a peer of replication may be silent, in seconds: a day.
 const MOST_TIMEOUT: u64 = 86_400;
+
+/// The longest time that a client may ask nothing, in seconds.
+const MOST_IDLE: u64 = 2_147_483_647;
+
+/// The longest time that the system waits before it asks for a silent peer, in seconds.
+const MOST_KEEPALIVE: u64 = 32_767;
 
 /// A number from `least` to `most`.
 fn number_option<'a>(alloc: Global, name: &'a str, least: u64, most: u64) -> Arg<'a>
@@ -82,19 +92,29 @@ fn pipe_command<'a>(alloc: Global) -> Result<Command<'a>, AllocError>
     with_text(drawn, alloc, "aof")
 }
 
-/// The subcommand `serve` with its options.
-fn serve_command<'a>(alloc: Global) -> Result<Command<'a>, AllocError>
-    ensures shape { IfOk result (λ c. app_of c ≡ serve_line) }
+/// The subcommand `serve` with the options of its node, its file and its end.
+fn node_command<'a>(alloc: Global) -> Result<Command<'a>, AllocError>
+    ensures shape { IfOk result (λ c. app_of c ≡ node_line) }
     ensures local { IfOk result (λ c. (out-Command c).has_globals ≡ false) }
 {
     let met = with_needed_number(Command::new(alloc, "serve"), alloc, "port", 1, MOST_PORT)?;
     let kept = with_text(met, alloc, "aof")?;
     let synced = with_text(kept, alloc, "sync")?;
     let ended = with_number(synced, alloc, "turns", 0, u64::MAX)?;
-    let held = with_number(ended, alloc, "backlog", 1, MOST_BACKLOG as u64)?;
-    let led = with_text(held, alloc, "replicaof")?;
+    with_number(ended, alloc, "backlog", 1, MOST_BACKLOG as u64)
+}
+
+/// The subcommand `serve` with all its options.
+fn serve_command<'a>(alloc: Global) -> Result<Command<'a>, AllocError>
+    ensures shape { IfOk result (λ c. app_of c ≡ serve_line) }
+    ensures local { IfOk result (λ c. (out-Command c).has_globals ≡ false) }
+{
+    let led = with_text(node_command(alloc)?, alloc, "replicaof")?;
     let bound = with_text(led, alloc, "bind")?;
-    with_number(bound, alloc, "repl-timeout", 1, MOST_TIMEOUT)
+    let heard = with_number(bound, alloc, "repl-timeout", LEAST_TIMEOUT, MOST_TIMEOUT)?;
+    let asked = with_number(heard, alloc, "timeout", 0, MOST_IDLE)?;
+    let probed = with_number(asked, alloc, "tcp-keepalive", 0, MOST_KEEPALIVE)?;
+    with_number(probed, alloc, "maxclients", 1, MOST_CLIENTS as u64)
 }
 
 /// The subcommand `world` with its option.

@@ -3,6 +3,9 @@ use mr_file::SyncMode;
 use mr_repl::ReplId;
 use std::net::Ipv4Addr;
 
+/// So many peers may have a link to a server at once, where its line doesn't say: the most that it may name.
+pub(crate) const MOST_CLIENTS: usize = 1_000_000;
+
 /// The options of `pipe`: one node, asked by one client on standard input.
 #[derive(Clone, Copy, Debug, PartialEq, Eq)]
 pub struct PipeOptions<'a> {
@@ -59,8 +62,14 @@ pub struct ServeOptions<'a> {
     pub master: Option<Master<'a>>,
     /// The address at which clients are met.
     pub bind: Ipv4Addr,
-    /// A peer of replication that is silent for so many seconds is given up, from 1 to 86,400.
+    /// A peer of replication that is silent for so many seconds is given up, from 11 to 86,400.
     pub timeout: u64,
+    /// A client that asks nothing for so many seconds is closed, up to 2^31 - 1. At 0 none is.
+    pub idle_timeout: u64,
+    /// The system asks for a peer that was silent for so many seconds, up to 32,767. At 0 it asks for none.
+    pub keepalive: u64,
+    /// So many peers may have a link at once, from 1 to 1,000,000, where there are descriptors for them.
+    pub most_clients: usize,
 }
 
 /// The options of `world`: nodes and the links between them, asked by a script on standard input.

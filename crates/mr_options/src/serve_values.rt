@@ -6,7 +6,7 @@ ghost use Rattle.mr_options.specs.Values.{AreServeOf, HasAddress, HasMaster, Has
 ghost use Rattle.mr_options.specs.declared.line.Options.TheVariants.{Serve};
 
 use crate::fault::UsageFault;
-use crate::line::{Master, ServeOptions};
+use crate::line::{MOST_CLIENTS, Master, ServeOptions};
 use crate::named_master::master_named;
 use crate::values::{needed_number_of, number_of, path_of};
 use clap::ArgMatches;
@@ -19,6 +19,12 @@ const USUAL_TURNS: u64 = 1_000_000_000_000;
 
 /// So many seconds a peer of replication may be silent, where the line doesn't say.
 const USUAL_TIMEOUT: u64 = 60;
+
+/// So many seconds a client may ask nothing, where the line doesn't say: 0 stands for ever.
+const USUAL_IDLE: u64 = 0;
+
+/// After so many seconds the system asks for a silent peer, where the line doesn't say.
+const USUAL_KEEPALIVE: u64 = 300;
 
 /// Whether each append is synced.
 fn mode_of(matches: &ArgMatches<'_>) -> Result<SyncMode, UsageFault>
@@ -76,6 +82,9 @@ pub(crate) fn serve_of<'a>(matches: &ArgMatches<'a>) -> Result<ServeOptions<'a>,
     let turns = number_of(matches, "turns", USUAL_TURNS);
     let backlog = number_of(matches, "backlog", USUAL_BACKLOG as u64);
     let timeout = number_of(matches, "repl-timeout", USUAL_TIMEOUT);
+    let idle_timeout = number_of(matches, "timeout", USUAL_IDLE);
+    let keepalive = number_of(matches, "tcp-keepalive", USUAL_KEEPALIVE);
+    let most_clients = number_of(matches, "maxclients", MOST_CLIENTS as u64);
     Ok(ServeOptions {
         port: port as u16,
         aof,
@@ -85,5 +94,8 @@ pub(crate) fn serve_of<'a>(matches: &ArgMatches<'a>) -> Result<ServeOptions<'a>,
         master,
         bind,
         timeout,
+        idle_timeout,
+        keepalive,
+        most_clients: most_clients as usize,
     })
 }
