@@ -18,6 +18,8 @@ from tests.support.replies import ABORTED, INTEGER, NIL, OK, PONG, QUEUED, START
 from tests.support.requests import EXEC, FAR, GET, MULTI, PAIR, PING, SET, SET_A, SET_B, SET_W, SET_X, framed
 
 TORN = b"*3\r\n$3\r\nSE"
+# behind the name of a file that is written anew, until it has the old one's place
+NEW = ".minired-new"
 # what is read of a file at once
 PIECE = 65_536
 # how often the program is killed in the middle of a stream of writes
@@ -463,7 +465,7 @@ class Rewriting(OfFile):
         self.assertEqual(self.bytes(), SET_W + SET_X)
 
     def test_what_an_earlier_rewriting_left_does_not_matter(self):
-        with open(self.path + ".new", "wb") as file:
+        with open(self.path + NEW, "wb") as file:
             file.write(1000 * TORN)
         self.answers(SET + SET_W, OK + OK)
         self.assertEqual(sorted(os.listdir(self.folder)), ["data.aof", "data.aof.lock"])
@@ -480,9 +482,23 @@ class Rewriting(OfFile):
         self.assertEqual((first.returncode, rest, self.bytes()), (0, OK, SET + SET_X))
 
     def test_no_place_beside_the_file(self):
-        os.mkdir(self.path + ".new")
-        self.fails(self.asked(SET + SET_W + REWRITE + SET_X), OK + OK)
-        self.assertEqual(self.bytes(), SET + SET_W)
+        for made in (os.mkdir, lambda name: os.symlink("other", name), os.mkfifo):
+            made(self.path + NEW)
+            self.fails(self.asked(SET + SET_W + REWRITE + SET_X), OK + OK)
+            self.assertEqual(self.bytes(), SET + SET_W)
+            self.assertEqual(sorted(os.listdir(self.folder)), ["data.aof", "data.aof.lock", "data.aof" + NEW])
+            (os.rmdir if made is os.mkdir else os.remove)(self.path + NEW)
+            self.write(b"")
+
+    def test_a_file_of_somebody_else_beside_it_stays(self):
+        names = [self.path + it for it in (".new", ".old", ".minired", "-new")]
+        for name in names:
+            with open(name, "wb") as file:
+                file.write(TORN)
+        self.answers(SET + SET_W + REWRITE + SET_X, OK + OK + STARTED + OK)
+        for name in names:
+            with open(name, "rb") as file:
+                self.assertEqual(file.read(), TORN)
 
     def test_a_full_disk(self):
         texts = b"".join(request("SET", "key%02d" % number, "v") for number in range(100))
@@ -532,6 +548,15 @@ class Failing(OfFailing):
         ran = self.run_with(SHORT_WRITE="1")
         self.assertEqual((ran.returncode, ran.stdout, ran.stderr), (0, 3 * OK, b""))
         self.assertEqual(self.bytes(), SET + SET_W + SET_X)
+
+    def test_what_a_signal_cuts_short_is_tried_again(self):
+        # twice the file is read, and then written three times
+        for call in range(1, 6):
+            with self.subTest(call=call):
+                self.write(SET_X)
+                ran = self.run_with(INTERRUPT_CALL=str(call))
+                self.assertEqual((ran.returncode, ran.stdout, ran.stderr), (0, 3 * OK, b""))
+                self.assertEqual(self.bytes(), SET_X + SET + SET_W + SET_X)
 
     def test_each_call_fails_in_turn(self):
         texts = [SET, SET_W, SET_X]
@@ -628,11 +653,15 @@ class Opening(OfFile):
         self.assertEqual((ran.returncode, ran.stdout), (3, b""))
 
     def test_a_lock_that_cannot_be_made_is_named(self):
-        os.mkdir(self.path + ".lock")
-        ran = self.asked(SET)
-        self.fails(ran, b"")
-        self.assertIn(os.fsencode(self.path + ".lock"), ran.stderr)
-        self.assertEqual(self.bytes(), b"")
+        lock = self.path + ".lock"
+        for made, kind in ((os.mkdir, b"a folder"), (os.mkfifo, b"a named pipe"), (lambda name: os.symlink("other", name), b"a symbolic link")):
+            with self.subTest(kind=kind):
+                made(lock)
+                ran = self.asked(SET)
+                self.fails(ran, b"")
+                self.assertIn(b": its lock %s is %s, and no regular file\n" % (os.fsencode(os.path.realpath(self.folder) + "/data.aof.lock"), kind), ran.stderr)
+                self.assertEqual((self.bytes(), sorted(os.listdir(self.folder))), (b"", ["data.aof", "data.aof.lock"]))
+                (os.rmdir if made is os.mkdir else os.remove)(lock)
 
     def writing(self):
         """A program that writes the file."""

@@ -1,6 +1,6 @@
 /* Put before the C library by LD_PRELOAD, it has calls on files fail, and writes be short. Only descriptors above 2 count. The
    variables count from 1: FAIL_CALL names a call of any of these kinds, FAIL_WRITE and FAIL_SYNC one of its kind, and SHORT_WRITE
-   the most bytes that a write takes. Files are opened, given their mode, locked and renamed too: FAIL_CALL counts that only where
+   the most bytes that a write takes. INTERRUPT_CALL names a read or a write at a place that a signal cuts short. Files are opened, given their mode, locked and renamed too: FAIL_CALL counts that only where
    FAIL_NAMES is set. The failed call does nothing. It is written without headers, so that a compiler alone makes it. */
 typedef unsigned long size_t;
 typedef long ssize_t;
@@ -11,9 +11,9 @@ extern char *getenv(const char *);
 extern int *__errno_location(void);
 
 enum { WRITE = 1, PREAD = 17, FLOCK = 73, FSYNC = 74, FDATASYNC = 75, FTRUNCATE = 77, FCHMOD = 91, OPENAT = 257, RENAMEAT = 264 };
-enum { NO_SPACE = 28, HERE = -100, CREATE = 64 };
+enum { CUT_SHORT = 4, NO_SPACE = 28, HERE = -100, CREATE = 64 };
 
-static unsigned long call_left, write_left, sync_left, most, names;
+static unsigned long call_left, write_left, sync_left, interrupt_left, most, names;
 
 static unsigned long number(const char *text)
 {
@@ -28,6 +28,7 @@ __attribute__((constructor)) static void begin(void)
     call_left = number(getenv("FAIL_CALL"));
     write_left = number(getenv("FAIL_WRITE"));
     sync_left = number(getenv("FAIL_SYNC"));
+    interrupt_left = number(getenv("INTERRUPT_CALL"));
     most = number(getenv("SHORT_WRITE"));
     names = number(getenv("FAIL_NAMES"));
 }
@@ -52,6 +53,14 @@ static int fails(int file, unsigned long *kind)
     return lacks_space(any || one);
 }
 
+static int is_interrupted(int file)
+{
+    if (file <= 2 || !comes(&interrupt_left))
+        return 0;
+    *__errno_location() = CUT_SHORT;
+    return 1;
+}
+
 static int fails_by_name(void)
 {
     return lacks_space(names && comes(&call_left));
@@ -59,7 +68,7 @@ static int fails_by_name(void)
 
 ssize_t write(int file, const void *from, size_t size)
 {
-    if (fails(file, &write_left))
+    if (fails(file, &write_left) || is_interrupted(file))
         return -1;
     if (file > 2 && most && size > most)
         size = most;
@@ -73,7 +82,7 @@ ssize_t __write(int file, const void *from, size_t size)
 
 ssize_t pread(int file, void *to, size_t size, off_t at)
 {
-    return fails(file, 0) ? -1 : syscall(PREAD, file, to, size, at);
+    return fails(file, 0) || is_interrupted(file) ? -1 : syscall(PREAD, file, to, size, at);
 }
 
 ssize_t pread64(int file, void *to, size_t size, off_t at)

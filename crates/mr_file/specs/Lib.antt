@@ -1,1 +1,3 @@
+pub mod Change
+pub mod Kind
 pub mod LogFile

@@ -1,13 +1,20 @@
 //! What stands beside a file of the system, under its name with more behind it.
+use crate::again::read_again;
 use std::alloc::AllocError;
 use std::fs::{File, OpenOptions};
 use std::io::{ErrorKind, Write};
-use std::os::unix::fs::{FileExt, MetadataExt, OpenOptionsExt, fchown};
+use std::os::unix::fs::{MetadataExt, OpenOptionsExt, fchown};
 use std::path::Path;
 use std::{fs, io};
 
 /// So many bytes of a file or of an input are read at once.
 pub const PIECE: usize = 65_536;
+
+/// What is written in a file's place has the file's name with this behind it until it takes that.
+const NEW: &str = "minired-new";
+
+/// The empty file by whose lock others are kept away has the file's name with this behind it.
+const LOCK: &str = "lock";
 
 /// No file has more copies of its ends beside it.
 const MOST_COPIES: u32 = 1_000_000;
@@ -30,7 +37,7 @@ pub struct Aside {
 #[derive(Drop)]
 pub(crate) struct Names {
     pub(crate) file: String,
-    /// Of what is to take its place.
+    /// Of what is to take its place: one that nobody else gives a file.
     pub(crate) new: String,
     /// Of the empty file by whose lock others are kept away.
     pub(crate) lock: String,
@@ -40,8 +47,8 @@ impl Names {
     /// The names of the file that a path leads to, which is there.
     pub(crate) fn of(rt: &HostRuntime, path: &str) -> io::Result<Names> {
         let file = fs::canonicalize(rt, path)?.into_string();
-        let new = with_ending(rt, file.as_str(), "new")?;
-        let lock = with_ending(rt, file.as_str(), "lock")?;
+        let new = with_ending(rt, file.as_str(), NEW)?;
+        let lock = with_ending(rt, file.as_str(), LOCK)?;
         Ok(Names { file, new, lock })
     }
 }
@@ -101,7 +108,7 @@ fn copy_from(rt: &HostRuntime, file: &File, from: u64, copy: &mut File) -> io::R
     let mut buffer = vec![in rt.alloc(); 0u8; PIECE]?;
     let mut at = from;
     'pieces: loop {
-        let count = file.read_at(buffer.as_mut_slice(), at)?;
+        let count = read_again(file, buffer.as_mut_slice(), at)?;
         if count == 0 {
             return Ok(at - from);
         }

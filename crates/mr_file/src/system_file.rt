@@ -1,13 +1,15 @@
-ghost use Rattle.std.specs.Prelude.{◌≡◌, ◌≤◌, None};
+ghost use Rattle.std.specs.Prelude.{◌≡◌, ◌≤◌, None, string_bytes};
 ghost use Rattle.mr_file.specs.LogFile.{Rose};
 
+use crate::again::{read_again, write_again};
 use crate::beside::{Aside, Names, copied, made_like, sync_folder};
+use crate::change::{Change, Sight};
 use crate::log_file::{Failed, LogFile};
 use crate::open_fault::OpenFault;
+use crate::opening::{locked, make_sure, opened_regular, remove_left};
 use std::alloc::AllocError;
-use std::fs::{File, OpenOptions};
+use std::fs::File;
 use std::io::{ErrorKind, Write};
-use std::os::unix::fs::FileExt;
 use std::{fs, io};
 
 /// So many descriptors are kept in reserve, so that a replacement has what it needs whoever takes all others.
@@ -15,57 +17,23 @@ const RESERVE: usize = 8;
 
 /// A file of the system, which no other `SystemFile` writes while this one is there, under whatever name: it holds its lock, and
 /// that of an empty file under the same name with `.lock` behind it, which stays. A replacement is written under the name with
-/// `.new` behind it, and takes the file's name once it is on the disk; what is set aside is under the name with `.cut-1` behind
-/// it, or with the next number that is free. These names are that of the file which a path led to at the start, behind all links.
+/// `.minired-new` behind it, and takes the file's name once it is on the disk; what is set aside is under the name with `.cut-1`
+/// behind it, or with the next number that is free. These names are that of the file which a path led to at the start, behind all
+/// links.
 #[derive(Drop)]
 pub struct SystemFile {
     rt: HostRuntime,
     names: Names,
     file: File,
     lock: File,
+    /// How many bytes the file has by what was done to it here.
+    length: u64,
     /// Descriptors that nobody else can take, and how many they are to be.
     reserve: Vec<File>,
     wanted: usize,
     aside: Option<Aside>,
     why: Option<io::Error>,
     failed: u64,
-}
-
-/// Opens a file for reading and for appending.
-fn opened(rt: &HostRuntime, path: &str, create: bool) -> io::Result<File> {
-    OpenOptions::new()
-        .read(true)
-        .append(true)
-        .create(create)
-        .open(rt, path)
-}
-
-/// Has a file at a path, an empty one where there was none. It answers whether it was made.
-fn make_sure(rt: &HostRuntime, path: &str) -> io::Result<bool> {
-    match opened(rt, path, false) {
-        Ok(_there) => Ok(false),
-        Err(error) => {
-            if error.kind() != ErrorKind::NotFound {
-                return Err(error);
-            }
-            let _made = opened(rt, path, true)?;
-            Ok(true)
-        }
-    }
-}
-
-/// Makes the empty file by whose lock others are kept away, and takes its lock.
-fn locked(rt: &HostRuntime, name: &str) -> Result<File, OpenFault> {
-    match opened(rt, name, true) {
-        Ok(lock) => {
-            lock.try_lock()?;
-            Ok(lock)
-        }
-        Err(error) => {
-            let name = String::from_str(rt.alloc(), name).map_err(io::Error::from)?;
-            Err(OpenFault::Lock(name, error))
-        }
-    }
 }
 
 /// Takes as many descriptors as are missing in a reserve: further ones of an open file.
@@ -78,25 +46,27 @@ fn fill(reserve: &mut Vec<File>, wanted: usize, open: &File) -> io::Result<()> {
 }
 
 impl SystemFile {
-    /// Opens the file at a path, or makes an empty one, whose name reaches the disk. What a replacement left beside it that never
-    /// took its place is removed.
+    /// Opens the file at a path, or makes an empty one, whose name reaches the disk. What is no regular file is refused, at the path
+    /// and under the lock's name. What a replacement left beside it that never took its place is removed.
     pub fn open(rt: HostRuntime, path: &str) -> Result<SystemFile, OpenFault> {
         // What can't be opened gets no lock, and what was replaced before the lock was taken is opened anew.
         let made = make_sure(&rt, path)?;
         let names = Names::of(&rt, path)?;
         let lock = locked(&rt, names.lock.as_str())?;
-        let file = opened(&rt, names.file.as_str(), true)?;
+        let file = opened_regular(&rt, names.file.as_str())?;
         file.try_lock()?;
         if made {
             sync_folder(&rt, names.file.as_str())?;
         }
-        let _removed = fs::remove_file(&rt, names.new.as_str());
+        remove_left(&rt, names.new.as_str());
+        let length = file.metadata()?.len();
         let reserve = Vec::new(rt.alloc());
         Ok(SystemFile {
             rt,
             names,
             file,
             lock,
+            length,
             reserve,
             wanted: 0,
             aside: None,
@@ -111,9 +81,30 @@ impl SystemFile {
         fill(&mut self.reserve, self.wanted, &self.lock)
     }
 
+    /// The file's name, behind all links.
+    pub fn path(&self) -> &str
+        ensures { result.now ≡ string_bytes self.now.names.file }
+    {
+        let name = &self.names.file;
+        name.as_str()
+    }
+
     /// The copy that was set aside last.
     pub fn aside(&self) -> Option<&Aside> {
         self.aside.as_ref()
+    }
+
+    /// What became of the file that wasn't done here, if anything did. Where the system doesn't tell, nothing did.
+    pub fn change(&self) -> Option<Change> {
+        let open = Sight::of(&self.file.metadata().ok()?);
+        let named = match fs::metadata(&self.rt, self.names.file.as_str()) {
+            Ok(known) => Some(Sight::of(&known)),
+            Err(error) => match error.kind() {
+                ErrorKind::NotFound | ErrorKind::NotADirectory => None,
+                _ => return None,
+            },
+        };
+        open.change(named, self.length)
     }
 
     /// Why the last call that failed did so.
@@ -137,10 +128,9 @@ impl SystemFile {
         Failed
     }
 
-    /// Writes these bytes under the name for it, and gives them the file's name once they are on the disk. Who opens them then
-    /// finds them locked.
-    fn written(&self, whole: &[u8]) -> io::Result<File> {
-        let mut file = made_like(&self.rt, &self.file, self.names.new.as_str())?;
+    /// Writes these bytes to a file under the name for it, and gives it the file's name once they are on the disk. Who opens it then
+    /// finds it locked.
+    fn written(&self, mut file: File, whole: &[u8]) -> io::Result<File> {
         file.try_lock()?;
         file.write_all(whole)?;
         file.sync_all()?;
@@ -148,13 +138,15 @@ impl SystemFile {
         Ok(file)
     }
 
-    /// Has these bytes take the file's place.
+    /// Has these bytes take the file's place. What stands under the name for them already isn't of this file, and stays.
     fn replaced(&mut self, whole: &[u8]) -> io::Result<()>
         ensures { self.new.failed ≡ self.old.failed }
     {
-        match self.written(whole) {
+        let made = made_like(&self.rt, &self.file, self.names.new.as_str())?;
+        match self.written(made, whole) {
             Ok(file) => {
                 self.file = file;
+                self.length = whole.len() as u64;
                 sync_folder(&self.rt, self.names.file.as_str())
             }
             Err(error) => {
@@ -175,7 +167,7 @@ impl LogFile for SystemFile {
     ghost failures = { λ f. f.failed };
 
     fn read(&mut self, at: u64, into: &mut [u8]) -> Result<usize, Failed> {
-        let count = match self.file.read_at(into, at) {
+        let count = match read_again(&self.file, into, at) {
             Ok(count) => count,
             Err(error) => return Err(self.failure(error)),
         };
@@ -186,13 +178,14 @@ impl LogFile for SystemFile {
     }
 
     fn write(&mut self, piece: &[u8]) -> Result<usize, Failed> {
-        let count = match self.file.write(piece) {
+        let count = match write_again(&mut self.file, piece) {
             Ok(count) => count,
             Err(error) => return Err(self.failure(error)),
         };
         if count == 0 && !piece.is_empty() {
             return Err(self.failure(io::Error::from(ErrorKind::WriteZero)));
         }
+        self.length = self.length.saturating_add(count as u64);
         Ok(count)
     }
 
@@ -215,7 +208,10 @@ impl LogFile for SystemFile {
 
     fn cut(&mut self, len: u64) -> Result<(), Failed> {
         match self.file.set_len(len) {
-            Ok(()) => Ok(()),
+            Ok(()) => {
+                self.length = len;
+                Ok(())
+            }
             Err(error) => Err(self.failure(error)),
         }
     }
