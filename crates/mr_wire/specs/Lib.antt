@@ -1,2 +1,3 @@
 pub mod Peer
+pub mod Room
 pub mod Wire

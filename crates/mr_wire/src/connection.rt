@@ -1,6 +1,7 @@
 ghost use Rattle.std.specs.Prelude.{◌≡◌, ◌≤◌, ◌||◌, false, length, IfOk, IfSome};
 ghost use Rattle.mr_wire.specs.Wire.{new_link, asked_link, behind_read, behind_write, count_of, is_over};
 
+use crate::probes::probe_after;
 use crate::wire::Moved;
 use mio::event::Event;
 use mio::net::TcpStream;
@@ -9,6 +10,7 @@ use std::io;
 use std::io::{ErrorKind, Read, Write};
 use std::marker::Model;
 use std::net::{Net, Shutdown, SocketAddr, SocketAddrV4};
+use std::os::fd::AsRawFd;
 
 /// A socket, and what is known of it without asking the system.
 #[derive(Drop)]
@@ -67,6 +69,13 @@ impl Connection {
     /// Has small writes go out at once. Whether they do.
     pub(crate) fn send_at_once(&self) -> bool {
         self.stream.set_nodelay(true).is_ok()
+    }
+
+    /// Has the system probe the peer once it was silent for so many seconds. A link on which that can't be had goes on without.
+    pub(crate) fn probe_after(&self, silence: u64) {
+        if silence > 0 {
+            let _probes = probe_after(self.stream.as_raw_fd(), silence);
+        }
     }
 
     /// Has the system tell what becomes of it. Whether it does.

@@ -1,4 +1,4 @@
-ghost use Rattle.std.specs.Prelude.{◌≡◌, ◌≤◌, [], false, length, None, IfOk, IfSome, IsSome, OnErr};
+ghost use Rattle.std.specs.Prelude.{◌≡◌, ◌≤◌, [], false, length, nat_le, None, IfOk, IfSome, IsSome, OnErr};
 ghost use Rattle.std.specs.FinMap as map;
 ghost use Rattle.mr_file.specs.LogFile.{Rose};
 ghost use Rattle.mr_wire.specs.Wire.{Opens, AcceptsNone, ChangesLink, behind_read, behind_write, count_of, wire_of};
@@ -7,6 +7,7 @@ use crate::connection::Connection;
 use crate::failures::Failures;
 use crate::peer::peer_named;
 use crate::ready_links::ReadyLinks;
+use crate::turning_away::let_in;
 use crate::wire::{Failed, Moved, Wire};
 use mio::event::Event;
 use mio::net::TcpListener;
@@ -35,6 +36,10 @@ pub struct SocketWire {
     events: Events,
     listener: TcpListener,
     acceptable: bool,
+    /// The system probes peers that were silent for so many seconds, or none at 0.
+    silence: u64,
+    /// With so many links open no other peer is let in.
+    most: usize,
     /// There was no descriptor for the link that was to be accepted last.
     lacks_descriptors: bool,
     links: Links<Connection>,
@@ -60,11 +65,35 @@ impl SocketWire {
             events,
             listener,
             acceptable: false,
+            silence: 0,
+            most: usize::MAX,
             lacks_descriptors: false,
             links: Links::new(alloc),
             ready: ReadyLinks::new(alloc),
             failed: Failures::new(),
         })
+    }
+
+    /// From now on the system probes the peer of each link that is opened once it was silent for so many seconds, and fails the link
+    /// where it leaves three probes without an answer. At 0, as in the beginning, it probes none.
+    pub fn probe_after(&mut self, silence: u64)
+        ensures { self.new ≡ record self.old { silence = silence } }
+    {
+        self.silence = silence;
+    }
+
+    /// From now on a peer that opens a link while so many are open is told that there is no room, and its link is closed.
+    pub fn take_at_most(&mut self, most: usize)
+        ensures { self.new ≡ record self.old { most = most } }
+    {
+        self.most = most;
+    }
+
+    /// Whether as many links are open as may be.
+    fn is_full(&self) -> bool
+        ensures { result ≡ nat_le self.now.most (map.len self.now.links.open_links) }
+    {
+        self.most <= self.links.len()
     }
 
     /// The address that it listens on.
@@ -104,6 +133,7 @@ impl SocketWire {
         if self.links.opened() >= LINKS_LIMIT || !connection.send_at_once() {
             return Err(self.failed.failure());
         }
+        connection.probe_after(self.silence);
         let Ok(link) = self.links.insert(connection) else {
             return Err(self.failed.failure());
         };
@@ -264,11 +294,12 @@ impl Wire for SocketWire {
             return Ok(None);
         }
         self.lacks_descriptors = false;
-        match self.listener.accept() {
-            Ok((stream, _address)) => {
+        match let_in(&self.listener, self.is_full()) {
+            Ok(Some(stream)) => {
                 let link = self.open(Connection::new(stream))?;
                 Ok(Some(link))
             }
+            Ok(None) => Ok(None),
             Err(error) => match error.kind() {
                 ErrorKind::Interrupted => Ok(None),
                 ErrorKind::WouldBlock => {
