@@ -14,8 +14,8 @@ from tests.support.replicating import Replicating, leads
 from tests.support.replies import OK, PONG, bulk
 from tests.support.server import HOST, MIB
 
-# for how long a peer may be silent here, in seconds
-TIMEOUT = 3
+# for how long a peer may be silent here, in seconds: the least that may be asked for
+TIMEOUT = 11
 HUNG_UP = b"link hung up: silent for %d s" % TIMEOUT
 OF_REPLICAS = re.compile(rb"replicas hung up that were silent or read nothing for %d s: (\d+)" % TIMEOUT)
 
@@ -81,6 +81,17 @@ class Masters(Silent):
         self.assertEqual(told[at + 1], b"not in its stream")
         self.assertRegex(told[at + 2], rb"\Agoes on from offset \d+\Z")
         self.assertEqual([it for it in told if it.startswith(b"whole copy")][2:], [])
+
+    def test_a_master_that_has_nothing_to_say(self):
+        """It says something in time, so that a link on which nobody writes stays."""
+        master = self.node(timeout=TIMEOUT)
+        proxy = self.proxy(master)
+        replica = self.node(follows=proxy.port, timeout=TIMEOUT)
+        self.caught_up(master, replica)
+        self.passes(3 * TIMEOUT)
+        self.follows(replica, proxy.port)
+        self.assertEqual(len(proxy.links), 1)
+        self.assertNotIn(HUNG_UP, self.told(replica, proxy.port))
 
     def test_masters_that_never_answer(self):
         """One that takes the link and says nothing, and one whose system doesn't even take it: each is given up and dialled again."""

@@ -59,8 +59,15 @@ BAD_LINES = [
     (["serve", "--port", "1", "--backlog", "1073741825"], b"1073741825 is not in 1..=1073741824"),
     (["serve", "--port", "1", "--backlog", "2", "--backlog", "2"], b"multiple times"),
     (["serve", "--port", "1", "--repl-timeout", "x"], b"x"),
-    (["serve", "--port", "1", "--repl-timeout", "0"], b"0 is not in 1..=86400"),
-    (["serve", "--port", "1", "--repl-timeout", "86401"], b"86401 is not in 1..=86400"),
+    (["serve", "--port", "1", "--repl-timeout", "10"], b"10 is not in 11..=86400"),
+    (["serve", "--port", "1", "--repl-timeout", "86401"], b"86401 is not in 11..=86400"),
+    (["serve", "--port", "1", "--timeout", "x"], b"x"),
+    (["serve", "--port", "1", "--timeout", "2147483648"], b"2147483648 is not in 0..=2147483647"),
+    (["serve", "--port", "1", "--timeout", "1", "--timeout", "1"], b"multiple times"),
+    (["serve", "--port", "1", "--tcp-keepalive", "-1"], b"-1"),
+    (["serve", "--port", "1", "--tcp-keepalive", "32768"], b"32768 is not in 0..=32767"),
+    (["serve", "--port", "1", "--maxclients", "0"], b"0 is not in 1..=1000000"),
+    (["serve", "--port", "1", "--maxclients", "1000001"], b"1000001 is not in 1..=1000000"),
     (["serve", "--port", "1", "--replicaof"], b"--replicaof <replicaof>"),
     (["serve", "--port", "1", "--replicaof", "h:2", "--replicaof", "h:2"], b"multiple times"),
     (["serve", "--port", "1", "--replicaof", "h", "2"], b"2"),
@@ -136,17 +143,17 @@ class Questions(unittest.TestCase):
             with self.subTest(words=words):
                 ran = run(PING, *words)
                 self.assertEqual((ran.returncode, ran.stderr), (0, b""))
-                words_of_it = ("serve", "pipe", "trio", "--port", "--aof", "--sync", "--turns", "--backlog", "--replicaof", "--bind", "--repl-timeout", "--id", "--now", "--word")
+                words_of_it = ("serve", "pipe", "trio", "--port", "--aof", "--sync", "--turns", "--backlog", "--replicaof", "--bind", "--repl-timeout", "--timeout", "--tcp-keepalive", "--maxclients", "--id", "--now", "--word")
                 for word in (*words_of_it, "--help", "--version"):
                     self.assertRegex(ran.stdout, rb"(?m)(^|[\s|\[])" + re.escape(word.encode()) + rb"\b")
-                for usual in ("always", "1000000000000", "1048576", "127.0.0.1", "usually 60", "40 times a", "usually 0"):
+                for usual in ("always", "1000000000000", "1048576", "127.0.0.1", "usually 60", "usually 300", "usually 1000000", "40 times a", "usually 0"):
                     self.assertIn(usual.encode(), ran.stdout)
                 self.assertTrue(all(len(line) <= 120 for line in ran.stdout.decode().split("\n")))
 
     def test_each_line_of_the_help_is_taken_by_the_parser(self):
         said = run(b"", "--help").stdout.decode()
         values = {"--port": "6379", "--aof": "", "--sync": "always", "--turns": "0", "--id": 40 * "a", "--now": "0", "--word": "0"}
-        values |= {"--backlog": "1048576", "--replicaof": "127.0.0.1:6379", "--bind": "127.0.0.1", "--repl-timeout": "60"}
+        values |= {"--backlog": "1048576", "--replicaof": "127.0.0.1:6379", "--bind": "127.0.0.1", "--repl-timeout": "60", "--timeout": "0", "--tcp-keepalive": "300", "--maxclients": "1000000"}
         self.assertEqual(set(re.findall(r"--[\w-]+", said)), {*values, "--help", "--version"})
         with tempfile.TemporaryDirectory() as folder:
             values["--aof"] = os.path.join(folder, "data.aof")

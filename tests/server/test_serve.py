@@ -237,9 +237,10 @@ class Notices(Serving):
         said = it.process.stderr.read()
         times, texts = zip(*NOTICE.findall(said))
         self.assertEqual(b"".join(b"%s minired: %s\n" % pair for pair in zip(times, texts)), said)
-        cut, ready, anew, ends = texts
+        cut, takes, ready, anew, ends = texts
         copy = os.path.realpath(self.path) + ".cut-1"
         self.assertEqual(cut, b"%s: cut off %d bytes from offset 54 on, copied to %s before" % (os.fsencode(self.path), len(TORN), os.fsencode(copy)))
+        self.assertTrue(takes.startswith(server.TAKES), takes)
         self.assertEqual(b"minired: %s\n" % ready, it.ready)
         self.assertRegex(anew, rb"\Afile written anew: 27 bytes in \d+ ms\Z")
         self.assertEqual(ends, b"ends: a client said SHUTDOWN")
@@ -257,8 +258,8 @@ class Notices(Serving):
         self.assertEqual(ended.notices[1:], [b"ends: file failed"])
 
     def test_that_no_descriptor_is_left_is_told_once_a_second_at_most(self):
-        it = self.serve(limits=lambda: resource.setrlimit(resource.RLIMIT_NOFILE, (40, 40)))
-        first, began = self.client(it), time.monotonic()
+        it = self.serve()
+        first, began = self.left(it, 40), time.monotonic()
         more = [self.client(it) for _ in range(100)]
         while time.monotonic() < began + 2.5:
             self.assertEqual(first.asks("PING"), PONG)
@@ -561,8 +562,8 @@ class Links(Serving):
         self.assertLess(it.memory(), memory + LEAK)
 
     def test_a_file_is_written_anew_where_clients_took_all_descriptors(self):
-        it = self.serve(aof=self.path, limits=lambda: resource.setrlimit(resource.RLIMIT_NOFILE, (60, 60)))
-        first = self.client(it)
+        it = self.serve(aof=self.path)
+        first = self.left(it, 60)
         for value in "vwx":
             self.assertEqual(first.asks("SET", "k", value), OK)
         more = [self.client(it) for _ in range(100)]
@@ -580,8 +581,8 @@ class Links(Serving):
         self.assertIn(b"no more descriptors: links wait to be accepted", it.told())
 
     def test_without_descriptors_the_links_that_are_there_go_on(self):
-        it = self.serve(limits=lambda: resource.setrlimit(resource.RLIMIT_NOFILE, (60, 60)))
-        links = [self.client(it) for _ in range(10)]
+        it = self.serve()
+        links = [self.left(it, 60), *(self.client(it) for _ in range(9))]
         for link in links:
             self.assertEqual(link.asks("PING"), PONG)
         more = [it.client() for _ in range(100)]

@@ -15,6 +15,8 @@ from tests.support.program import LATE, LAUNCHER, PROGRAM, notices, request
 
 HOST = "127.0.0.1"
 READY = re.compile(rb"minired: ready on 127\.0\.0\.1:(\d+), (\d+) keys(?: from (.*))?\n")
+# how the notice begins by which each start tells how many clients it takes
+TAKES = b"takes at most "
 # how long a poll sleeps between two looks, in seconds
 A_LOOK = 0.002
 # descriptors that a test with many links needs, of its own and of the server
@@ -96,7 +98,7 @@ class Server:
             self.ready += piece
 
     def ended(self):
-        """How the program ended, what it wrote behind the ready line, and which notices. It is waited for."""
+        """How the program ended, what it wrote behind the ready line, which notices, and which of its room. It is waited for."""
         try:
             out, err = self.process.communicate(timeout=LATE)
         finally:
@@ -104,7 +106,8 @@ class Server:
         said = b"" if self.ready.endswith(b"\n") else self.ready
         noticed, err = notices(err)
         ended = subprocess.CompletedProcess([], self.process.returncode, said + out, err)
-        ended.notices = noticed
+        ended.room = [it for it in noticed if it.startswith(TAKES)]
+        ended.notices = [it for it in noticed if not it.startswith(TAKES)]
         return ended
 
     def signalled(self, number):

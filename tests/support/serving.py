@@ -2,6 +2,7 @@
 
 import os
 import re
+import resource
 
 from tests.support.files import InFolder
 from tests.support.replies import PONG
@@ -24,6 +25,11 @@ class Serving(InFolder):
         it = of.client(**how)
         self.addCleanup(it.close)
         return it
+
+    def left(self, it, count):
+        """A client of a server that has only so many descriptors from now on, so that clients may take all."""
+        resource.prlimit(it.pid, resource.RLIMIT_NOFILE, (count, count))
+        return self.client(it)
 
     def goes_on(self, it):
         """The server is there, and serves a new link."""

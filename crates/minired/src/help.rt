@@ -10,7 +10,8 @@ minired: an in-memory data structure server in the manner of Redis
 
 usage: minired serve --port P [--aof PATH] [--sync always|no] [--turns N]
                      [--backlog N] [--replicaof HOST:PORT] [--bind A]
-                     [--repl-timeout N]
+                     [--repl-timeout N] [--timeout N] [--tcp-keepalive N]
+                     [--maxclients N]
        minired pipe [--aof PATH] [--id H] [--now N] [--word N]
        minired trio
        minired world [--backlog N]
@@ -26,7 +27,16 @@ minired serve  answers clients over RESP2, until one says SHUTDOWN
                the node that it begins as a replica of; usually none: it begins as a master
   --bind A     the IPv4 address that it listens on; who reaches it is asked for no password; usually 127.0.0.1
   --repl-timeout N
-               a master, and a replica, is given up once it is silent for so many seconds, from 1 to 86400; usually 60
+               a master, and a replica, is given up once it is silent for so many seconds, from 11 to 86400: a healthy
+               master may be silent for 10; usually 60
+  --timeout N  a client is closed that asks nothing and takes nothing for so many seconds, from 0 to 2147483647; 0: none
+               is; usually 0
+  --tcp-keepalive N
+               the system asks for a peer that was silent for so many seconds, from 0 to 32767, and fails its link where
+               three times nobody answers; 0: it asks for none; usually 300
+  --maxclients N
+               so many clients may have a link at once, from 1 to 1000000, and at most 32 less than `ulimit -n` says;
+               usually 1000000
 
 minired pipe   answers one client on standard input and output, until the input ends; so does minired without a word
   --aof PATH   the append-only file that keeps the dataset; usually none: it is in memory alone

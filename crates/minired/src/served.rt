@@ -3,6 +3,7 @@ ghost use Rattle.std.specs.Prelude.{◌≤◌, ◌^◌};
 
 use crate::failure::Failure;
 use crate::kept::{opened, write_failure};
+use crate::kept_file::SeesChange;
 use crate::notice::tell;
 use crate::obeying::follow;
 use crate::told_wire::ToldWire;
@@ -14,7 +15,7 @@ use mr_loop::{Links, LoopFault};
 use mr_node::{Config, Node, Role};
 use mr_options::ServeOptions;
 use mr_source::{Source, SystemSource};
-use mr_wire::SocketWire;
+use mr_wire::{SocketWire, descriptor_limit, most_links};
 use std::hash::RandomState;
 use std::net::SocketAddr;
 
@@ -45,7 +46,7 @@ pub fn run_server(
 }
 
 /// Serves the peers of a node that begins with this dataset.
-fn serve_node<F: LogFile>(
+fn serve_node<F: LogFile + SeesChange>(
     rt: &HostRuntime,
     options: &ServeOptions<'_>,
     dataset: Dataset,
@@ -150,9 +151,27 @@ fn listening(rt: &HostRuntime, options: &ServeOptions<'_>) -> Result<ToldWire, F
     let (of_sockets, of_wire) = (another(rt)?, another(rt)?);
     let address = SocketAddr::from((options.bind, options.port));
     match SocketWire::listen(of_sockets, rt.alloc(), address) {
-        Ok(wire) => Ok(ToldWire::new(of_wire, wire, options.timeout)),
+        Ok(mut wire) => {
+            wire.probe_after(options.keepalive);
+            wire.take_at_most(room_of(rt, options.most_clients));
+            Ok(ToldWire::new(of_wire, wire, options.timeout))
+        }
         Err(error) => Err(Failure::Listen(options.port, error)),
     }
+}
+
+/// How many clients may have a link at once where so many are to. A notice says so.
+fn room_of(rt: &HostRuntime, wanted: usize) -> usize {
+    let most = most_links(wanted, descriptor_limit());
+    if most < wanted {
+        tell(
+            rt,
+            &format_args!("takes at most {most} clients at once: `ulimit -n` allows no more"),
+        );
+    } else {
+        tell(rt, &format_args!("takes at most {most} clients at once"));
+    }
+    most
 }
 
 /// The lines that say that clients may come: one on standard output, and a notice. Where others than this machine's reach the server,

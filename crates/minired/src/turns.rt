@@ -5,6 +5,7 @@ ghost use Rattle.mr_loop.specs.Outcomes.{Serves};
 ghost use Rattle.mr_loop.specs.Quiet.{AllWait};
 
 use crate::following::FollowNotice;
+use crate::kept_file::{ChangeNotice, SeesChange};
 use crate::notice::{Seldom, tell};
 use crate::roles::RoleNotice;
 use crate::told_wire::SeesMaster;
@@ -49,7 +50,7 @@ impl DeafClients {
 }
 
 /// So many turns, or fewer where one meets a fault, or in one a client asks that the program end. That is the last.
-pub fn serve_turns<W: Wire + SeesMaster, F: LogFile, S: Source>(
+pub fn serve_turns<W: Wire + SeesMaster, F: LogFile + SeesChange, S: Source>(
     rt: &HostRuntime,
     node: &mut Node,
     links: &mut Links,
@@ -72,11 +73,13 @@ pub fn serve_turns<W: Wire + SeesMaster, F: LogFile, S: Source>(
     };
     let mut following = FollowNotice::new();
     let mut roles = RoleNotice::new();
+    let mut change = ChangeNotice::new();
     for _ in 0..turns {
         let told = turn(node, links, wire, log, source)?;
         deaf.close(rt, told.deaf);
         following.look(rt, node, told.followed, wire.master());
         roles.look(rt, node);
+        change.look(rt, log.file());
         if told.halted {
             deaf.end(rt);
             return Ok(());
