@@ -26,7 +26,7 @@ use Rattle.mr_loop.specs.Counting.{MomentState, Renewed, one_where}
 use Rattle.mr_loop.specs.Outcomes.{Does}
 use Rattle.mr_loop.specs.Quiet.{AllWait}
 use Rattle.mr_loop.proofs.Runs.{broke_one, still_one}
-use Rattle.mr_loop.proofs.Supplying.{renewed_none}
+use Rattle.mr_loop.proofs.Supplying.{renewed_none, tells_none}
 use Rattle.mr_loop.proofs.Waiting.{all_is, carried_all, dialled_all, ended_all, none_some, some_is}
 
 -- ---- the wire
@@ -142,13 +142,13 @@ no_id d = ap (λ (o : OutsState). o.used) d.outs_are
 -- The master was dialled, and what the node gave out was carried out, or wasn't.
 pub dialled_as : (tells : Bool) (mode : SyncMode) (r : Result (Unit {0}) LoopFault) (old new : MomentState) (outs : OutsState) (socket link : LinkId) (s m t : Stage)
     → Calls (at_dial socket link) s m outs → CarriesAs r (outs_of outs) m t → OnOk r (Renewed outs.used old new) → OnErr r (new ≡ old) → Does tells mode r old new s t
-dialled_as tells mode (Ok done) old new outs socket link s m t calls carried moment kept = still_one (acts (at_dial socket link) outs) old new refl refl refl refl (ap (λ (o : Option (List ℕ)). one_where o) (no_id calls.dials)) refl refl (λ now ids. (no_id calls.dials, refl))
+dialled_as tells mode (Ok done) old new outs socket link s m t calls carried moment kept = still_one (acts (at_dial socket link) outs) old new refl refl refl refl (ap (λ (o : Option (List ℕ)). one_where o) (no_id calls.dials)) refl refl refl (λ ids. (no_id calls.dials, refl))
     (record { called = m; calls = calls; carried = carried })
     (renewed_none outs.used old new (no_id calls.dials) moment)
 dialled_as tells mode (Err fault.File) old new outs socket link s m t calls carried moment kept =
-    broke_one (tears (at_dial socket link) outs) (old.fresh ∷ []) refl (no_id calls.dials, refl) (ap (λ (z : MomentState). z.drawn) kept) (record { called = m; calls = calls; torn = carried })
+    broke_one (tears (at_dial socket link) outs) (old.fresh ∷ []) refl (no_id calls.dials, refl) (tells_none (ap (λ (z : MomentState). z.drawn) kept)) (record { called = m; calls = calls; torn = carried })
 dialled_as tells mode (Err fault.Stopped) old new outs socket link s m t calls carried moment kept =
-    broke_one (spills (at_dial socket link) outs) (old.fresh ∷ []) refl (no_id calls.dials, refl) (ap (λ (z : MomentState). z.drawn) kept) (record { called = m; calls = calls; spilled = carried })
+    broke_one (spills (at_dial socket link) outs) (old.fresh ∷ []) refl (no_id calls.dials, refl) (tells_none (ap (λ (z : MomentState). z.drawn) kept)) (record { called = m; calls = calls; spilled = carried })
 dialled_as tells mode (Err fault.Listener) old new outs socket link s m t calls carried moment kept = absurd carried
 
 -- .. and what waits then

@@ -5,7 +5,7 @@ use Rattle.mr_outs.specs.Outs.{OutsState, outs_of}
 use Rattle.mr_loop.specs.declared.fault.LoopFault.{LoopFault}
 use Rattle.mr_loop.specs.Stage.{Stage, LoopState}
 use Rattle.mr_loop.specs.Causes.{Act, Calls, at_dial, at_step, at_tick}
-use Rattle.mr_loop.specs.Rows.{Event, fault_of, Happens, Run, acts, appends, breaks, closes, fails, finds_none, hears_end, idles, is_deaf, is_refused, joins, loses, misses, misses_dial, misses_tick, settles, spills, stops, takes, tears, turns_away, waits, writes}
+use Rattle.mr_loop.specs.Rows.{Event, fault_of, Happens, Run, acts, appends, breaks, closes, fails, finds_none, hears_end, idles, is_deaf, is_refused, joins, loses, misses, misses_dial, misses_tick, settles, spills, stops, takes, tears, turns_away, waits, wakes, writes}
 use Rattle.mr_loop.specs.Counting.{halts_by, halts_in, KnowsShutdown}
 use Rattle.mr_loop.proofs.Carried.{carried_halts, outs_halt}
 
@@ -25,6 +25,7 @@ called (at_dial socket link) s m outs c = c.halted
 
 module _ (tells : Bool) (mode : SyncMode) where
   kept : (e : Event) (s t : Stage) → fault_of e ≡ None → Happens tells mode s e t → t.own.halted ≡ (halts_by e || s.own.halted)
+  kept (wakes now) s t goes_on h = ap (λ (z : Stage). z.own.halted) h.is
   kept waits s t goes_on h = ap (λ (z : Stage). z.own.halted) h.is
   kept (joins socket link) s t goes_on h = h.halted
   kept turns_away s t goes_on h = ap (λ (z : LoopState). z.halted) h.own

@@ -25,7 +25,7 @@ use Rattle.mr_node.specs.declared.step.Step.{Step}
 use Rattle.mr_node.specs.declared.step.Step.TheVariants as step
 use Rattle.mr_loop.specs.Stage.{Stage}
 use Rattle.mr_loop.specs.Causes.{Act, Calls, Dropped, Stepped, TurnsOff, at_dial, at_step, at_tick, ended_at, dials_and_closes, opens_and_closes, stays}
-use Rattle.mr_loop.specs.Rows.{Event, fault_of, Happens, Run, Went, acts, appends, breaks, closes, fails, finds_none, hears_end, idles, is_deaf, is_refused, joins, loses, misses, misses_dial, misses_tick, settles, spills, stops, takes, tears, turns_away, waits, writes}
+use Rattle.mr_loop.specs.Rows.{Event, fault_of, Happens, Run, Went, acts, appends, breaks, closes, fails, finds_none, hears_end, idles, is_deaf, is_refused, joins, loses, misses, misses_dial, misses_tick, settles, spills, stops, takes, tears, turns_away, waits, wakes, writes}
 use Rattle.mr_loop.proofs.Carried.{carried_core}
 use Rattle.mr_loop.proofs.Halting.{no_fault}
 
@@ -161,6 +161,7 @@ called_up (at_dial socket link) s m outs c = ap is_up c.dials.node
 
 module _ (tells : Bool) (mode : SyncMode) where
   still_up : (e : Event) (s t : Stage) → fault_of e ≡ None → Happens tells mode s e t → t.node.core.up ≡ s.node.core.up
+  still_up (wakes now) s t goes_on h = ap (λ (z : Stage). z.node.core.up) h.is
   still_up waits s t goes_on h = ap (λ (z : Stage). z.node.core.up) h.is
   still_up (joins socket link) s t goes_on h = ap is_up h.node.node
   still_up turns_away s t goes_on h = off_up s.node t.node h.node

@@ -1,8 +1,9 @@
 -- How outs are carried out, one after another, and what is the same of a host behind it.
-use Rattle.std.proofs.Common.{◌≡◌, ◌<◌, ◌≤◌, ◌+◌, ℕ, ℤ, List, [], ◌∷◌, ◌++◌, Bool, true, false, IsTrue, length, Option, None, Some, Result, Ok, Err, OnOk, OnErr, IfErr, MutBor, append_assoc, append-nil, arith, refl, sym, ap, subst, ◌∙◌}
+use Rattle.std.proofs.Common.{◌≡◌, ◌<◌, ◌≤◌, ◌≤ℤ◌, ◌+◌, ℕ, List, [], ◌∷◌, ◌++◌, Bool, true, false, IsTrue, length, Option, None, Some, Result, Ok, Err, OnOk, OnErr, IfErr, MutBor, append_assoc, append-nil, arith, refl, sym, ap, subst, ◌∙◌}
 use Rattle.std.specs.declared.alloc.AllocError.{AllocError}
 use Rattle.mr_links.specs.declared.link_id.LinkId.{LinkId}
 use Rattle.mr_data.specs.declared.given.Given.{Given}
+use Rattle.mr_source.specs.Drawn.{DrawnState, with_moment}
 use Rattle.mr_file.specs.declared.sync_mode.SyncMode.{SyncMode}
 use Rattle.mr_follow.specs.State.{FollowState, Agrees as FollowAgrees}
 use Rattle.mr_course.specs.State.{CourseState, name_of}
@@ -34,14 +35,14 @@ use Rattle.mr_loop.specs.Rows.{Event, Happens, acts, fault_of, spills, tears}
 use Rattle.mr_loop.specs.News.{is_client_end, news_of, place_of}
 use Rattle.mr_loop.specs.declared.followed.News.{News}
 use Rattle.mr_loop.specs.declared.followed.Place.{Place}
-use Rattle.mr_loop.specs.Giving.{IsGiven, IsGivenAct, IsGivenStep, Supplies}
+use Rattle.mr_loop.specs.Giving.{IsGiven, IsGivenAct, moments_by, moments_in_act}
 use Rattle.mr_loop.specs.Counting.{CountsStill, MomentState, Renewed, calls_by, counted, deaf_by, heard_if, ids_by, news_by, one_where, raised, taken, ticks_by, uses_by}
 use Rattle.mr_loop.specs.Outcomes.{Broke}
 use Rattle.mr_loop.specs.Quiet.{AllWait, OthersWait, left_at}
 use Rattle.mr_loop.proofs.Less.{carried_left, done_less}
-use Rattle.mr_loop.proofs.Runs.{broke_one, still_event}
-use Rattle.mr_loop.proofs.Supplying.{renewed_time, renewed_turn, supplies_one}
-use Rattle.mr_loop.proofs.Taking.{step_takes, stepped_with}
+use Rattle.mr_loop.proofs.Runs.{broke_one, gives_none, still_event}
+use Rattle.mr_loop.proofs.Supplying.{Tells, renewed_turn, supplies_step}
+use Rattle.mr_loop.proofs.Taking.{step_takes}
 use Rattle.mr_loop.proofs.Waiting.{all_is, closed_waits, others_is, some_is}
 
 -- ---- what stays of a host
@@ -196,11 +197,11 @@ last_sent all mid front link reply s m t o q r e so c ok err well ill is =
 
 -- ---- a call of the node whose outs aren't all carried out
 
-pub not_told : {tells : Bool} {mode : SyncMode} {drawn after : Option (List (List ℕ))} (now : ℤ) (unused left : List (List ℕ)) (act : Act) (s called t : Stage) (outs : OutsState) (why : LoopFault) → IsGivenAct now unused act outs.used left → after ≡ drawn
-    → Calls act s called outs → CarriesAs (Err why) (outs_of outs) called t → Broke tells mode now unused drawn after why s t
-not_told now unused left act s called t outs fault.File given same calls torn = broke_one (tears act outs) left refl given same (record { called = called; calls = calls; torn = torn })
-not_told now unused left act s called t outs fault.Stopped given same calls spilled = broke_one (spills act outs) left refl given same (record { called = called; calls = calls; spilled = spilled })
-not_told now unused left act s called t outs fault.Listener given same calls never = absurd never
+pub not_told : {tells : Bool} {mode : SyncMode} {drawn after : DrawnState} (unused left : List (List ℕ)) (act : Act) (s called t : Stage) (outs : OutsState) (why : LoopFault) → IsGivenAct unused act outs.used left → Tells (moments_in_act act) drawn after
+    → Calls act s called outs → CarriesAs (Err why) (outs_of outs) called t → Broke tells mode unused drawn after why s t
+not_told unused left act s called t outs fault.File given told calls torn = broke_one (tears act outs) left refl given told (record { called = called; calls = calls; torn = torn })
+not_told unused left act s called t outs fault.Stopped given told calls spilled = broke_one (spills act outs) left refl given told (record { called = called; calls = calls; spilled = spilled })
+not_told unused left act s called t outs fault.Listener given told calls never = absurd never
 
 -- ---- what is counted where a fresh id was taken
 
@@ -263,38 +264,27 @@ abbrev stepped_once : Option News → Turn → Turn
 stepped_once news turn = record turn { steps = counted (turn.steps + 1); done = counted (turn.done + 1); followed = heard_if news turn.followed }
 
 pub steps_once : {tells : Bool} {mode : SyncMode} (s t : Stage) (socket link : LinkId) (given : Given) (fresh : List ℕ) (news : Option News) (n : NodeState) (outs : OutsState) (old mid new : MomentState) (counting using : Turn)
-    → Calls (at_step socket link given fresh news) s (record s { node = n }) outs → Carried (outs_of outs) (record s { node = n }) t → given.now ≡ old.time → fresh ≡ old.fresh → mid ≡ record old { turn = mid.turn }
+    → Calls (at_step socket link given fresh news) s (record s { node = n }) outs → Carried (outs_of outs) (record s { node = n }) t → fresh ≡ old.fresh → mid.fresh ≡ old.fresh → old.drawn.clock ≤ℤ given.now → mid.drawn ≡ with_moment given.now old.drawn
     → counting ≡ record old.turn { steps = counted (old.turn.steps + 1) } → using ≡ record counting { done = counted (counting.done + 1) } → mid.turn ≡ record using { followed = heard_if news using.followed } → Renewed outs.used mid new
     → CountsStill tells mode old new s t
-steps_once s t socket link given fresh news n outs old mid new counting using calls carried at id still one used heard took =
+steps_once s t socket link given fresh news n outs old mid new counting using calls carried is first forward told one used heard took =
     let hearing = mid.turn in
     let turn : new.turn ≡ taken outs.used hearing = renewed_turn outs.used mid new took in
     let all : hearing ≡ stepped_once news old.turn = heard ∙ (ap (λ (x : Turn). record x { followed = heard_if news x.followed }) used ∙ ap (λ (x : Turn). record x { done = counted (x.done + 1); followed = heard_if news x.followed }) one) in
     still_event (acts (at_step socket link given fresh news) outs) old new refl refl (record { called = record s { node = n }; calls = calls; carried = carried })
-    (stepped_with old mid new socket link given fresh news outs at id still (step_takes s.node n link given fresh outs calls.stepped) took)
-    (renewed_time outs.used mid new took ∙ ap (λ (m : MomentState). m.time) still)
+    (supplies_step old mid new socket link given fresh news outs is first forward told (step_takes s.node n link given fresh outs calls.stepped) took)
     (ap (λ (x : Turn). x.steps) turn ∙ (taken_steps outs.used hearing ∙ ap (λ (x : Turn). x.steps) all))
     (ap (λ (x : Turn). x.done) turn ∙ (taken_done outs.used hearing ∙ ap (λ (x : Turn). x.done) all))
     (ap (λ (x : Turn). x.used) turn ∙ (taken_used outs.used hearing ∙ ap (λ (x : Turn). raised (one_where outs.used) x.used) all))
     (ap (λ (x : Turn). x.deaf) turn ∙ (taken_deaf outs.used hearing ∙ ap (λ (x : Turn). x.deaf) all))
     (ap (λ (x : Turn). x.followed) turn ∙ (taken_followed outs.used hearing ∙ ap (λ (x : Turn). x.followed) all))
 
--- the id that it is given is left where it takes none
-pub given_none : (now : ℤ) (given : Given) (fresh id : List ℕ) → given.now ≡ now → fresh ≡ id → IsGivenStep now (id ∷ []) given fresh None (id ∷ [])
-given_none now given fresh id at is = record { at = at; behind = []; first = ap (λ (z : List ℕ). z ∷ []) (sym is); taken = refl }
-
-pub gives_none : (e : Event) (old new : MomentState) → IsGiven old.time (old.fresh ∷ []) e (old.fresh ∷ []) → new.fresh ≡ old.fresh → new.drawn ≡ old.drawn → Supplies old.time (old.fresh ∷ []) old.drawn (e ∷ []) (new.fresh ∷ []) new.drawn
-gives_none e old new given fresh drawn =
-    subst (λ (id : List ℕ). Supplies old.time (old.fresh ∷ []) old.drawn (e ∷ []) (id ∷ []) new.drawn) (sym fresh) (supplies_one old.time (old.fresh ∷ []) (old.fresh ∷ []) old.drawn new.drawn e given drawn)
-
 -- one of which only that it was made is counted
-pub counts_call : {tells : Bool} {mode : SyncMode} {s t : Stage} (e : Event) (old new : MomentState) (counting : Turn) → fault_of e ≡ None → ticks_by e ≡ 0 → calls_by e ≡ 1 → uses_by e ≡ 0 → ids_by e ≡ 0 → deaf_by e ≡ 0 → news_by e ≡ None
-    → Happens tells mode s e t → IsGiven old.time (old.fresh ∷ []) e (old.fresh ∷ []) → counting ≡ record old.turn { steps = counted (old.turn.steps + 1) } → new ≡ record old { turn = counting } → CountsStill tells mode old new s t
-counts_call e old new counting goes_on no_tick call uses ids deaf news h given one same =
-    let all : new.turn ≡ record old.turn { steps = counted (old.turn.steps + 1) } = ap (λ (m : MomentState). m.turn) same ∙ one in
+pub counts_call : {tells : Bool} {mode : SyncMode} {s t : Stage} (e : Event) (old new : MomentState) → fault_of e ≡ None → ticks_by e ≡ 0 → calls_by e ≡ 1 → uses_by e ≡ 0 → ids_by e ≡ 0 → deaf_by e ≡ 0 → news_by e ≡ None
+    → Happens tells mode s e t → IsGiven (old.fresh ∷ []) e (old.fresh ∷ []) → Tells (moments_by e) old.drawn new.drawn → new.fresh ≡ old.fresh → new.turn ≡ record old.turn { steps = counted (old.turn.steps + 1) } → CountsStill tells mode old new s t
+counts_call e old new goes_on no_tick call uses ids deaf news h given told fresh all =
     still_event e old new goes_on no_tick h
-    (gives_none e old new given (ap (λ (m : MomentState). m.fresh) same) (ap (λ (m : MomentState). m.drawn) same))
-    (ap (λ (m : MomentState). m.time) same)
+    (gives_none e old new given fresh told)
     (ap (λ (x : Turn). x.steps) all ∙ ap (λ k. raised k old.turn.steps) (sym call))
     (ap (λ (x : Turn). x.done) all ∙ ap (λ k. raised k old.turn.done) (sym uses))
     (ap (λ (x : Turn). x.used) all ∙ ap (λ k. raised k old.turn.used) (sym ids))

@@ -1,17 +1,17 @@
 -- Events one after another, what is counted in them, and what a fault leaves.
-use Rattle.std.proofs.Common.{◌≡◌, ◌<◌, ◌≤◌, inl, inr, Bool, true, false, List, [], ◌∷◌, ◌++◌, ℕ, ℤ, zero, suc, ◌+◌, arith, Option, None, Some, Result, Ok, Err, append_assoc, refl, sym, ap, subst, ◌∙◌}
+use Rattle.std.proofs.Common.{◌≡◌, ◌<◌, ◌≤◌, ◌≤ℤ◌, inl, inr, Bool, true, false, List, [], ◌∷◌, ◌++◌, ℕ, ℤ, zero, suc, ◌+◌, arith, Option, None, Some, Result, Ok, Err, append_assoc, refl, sym, ap, subst, ◌∙◌}
 use Rattle.mr_file.specs.declared.sync_mode.SyncMode.{SyncMode}
-use Rattle.mr_source.specs.Ids.{with_ids}
+use Rattle.mr_source.specs.Drawn.{DrawnState, with_id, with_moment}
 use Rattle.mr_loop.specs.declared.fault.LoopFault.{LoopFault}
 use Rattle.mr_loop.specs.declared.fault.LoopFault.TheVariants as fault
 use Rattle.mr_loop.specs.declared.told.Turn.{Turn}
 use Rattle.mr_loop.specs.declared.followed.Followed.{Followed}
 use Rattle.mr_loop.specs.Stage.{Stage}
-use Rattle.mr_loop.specs.Rows.{Event, fault_of, Happens, HasWaited, IsToldToStop, Run, Went, spills, tears, fails, stops, waits}
-use Rattle.mr_loop.specs.Giving.{IsGiven, Supplies}
+use Rattle.mr_loop.specs.Rows.{Event, fault_of, Happens, HasWaited, IsToldToStop, Run, Went, spills, tears, fails, stops, wakes}
+use Rattle.mr_loop.specs.Giving.{IsGiven, Supplies, moments_by}
 use Rattle.mr_loop.specs.Counting.{calls_by, uses_by, ids_by, deaf_by, news_by, ticks_by, counted, followed_by, heard_if, raised, sum_in, CountsOn, CountsStill, MomentState, TellsOf}
 use Rattle.mr_loop.specs.Outcomes.{BreaksDown, Broke, Does, Ends, Fails, HasBroken, HasTurned, Serves, Turns, TurnsOn}
-use Rattle.mr_loop.proofs.Supplying.{supplies_at, supplies_behind, supplies_first, supplies_none, supplies_on, supplies_one}
+use Rattle.mr_loop.proofs.Supplying.{Tells, supplies_first, supplies_none, supplies_on, supplies_one, tells_none}
 
 pub run_append : (tells : Bool) (mode : SyncMode) (xs ys : List Event) (a b c : Stage) → Run tells mode a xs b → Run tells mode b ys c → Run tells mode a (xs ++ ys) c
 run_append tells mode [] ys a b c r q = subst (λ x. Run tells mode x ys c) r q
@@ -55,8 +55,7 @@ followed_on xs ys old mid new first second = second ∙ (ap (followed_by ys) fir
 abbrev pub counts_on : {tells : Bool} {mode : SyncMode} {old mid new : MomentState} {a b c : Stage} → CountsOn tells mode old mid a b → CountsOn tells mode mid new b c → CountsOn tells mode old new a c
 counts_on {tells} {mode} {old} {mid} {new} x y = record {
   went = went_further x.went y.went;
-  given = supplies_on x.went.events y.went.events x.given (supplies_at mid.time old.time x.time_stays y.given);
-  time_stays = y.time_stays ∙ x.time_stays;
+  given = supplies_on x.went.events y.went.events x.given y.given;
   steps_are = raised_on calls_by x.went.events y.went.events old.turn.steps mid.turn.steps new.turn.steps x.steps_are y.steps_are;
   done_are = raised_on uses_by x.went.events y.went.events old.turn.done mid.turn.done new.turn.done x.done_are y.done_are;
   used_are = raised_on ids_by x.went.events y.went.events old.turn.used mid.turn.used new.turn.used x.used_are y.used_are;
@@ -74,8 +73,7 @@ still_on x y = record {
 abbrev pub counts_none : {tells : Bool} {mode : SyncMode} (moment : MomentState) (s : Stage) → CountsOn tells mode moment moment s s
 counts_none moment s = record {
   went = went_nowhere s;
-  given = supplies_none moment.time (moment.fresh ∷ []) moment.drawn;
-  time_stays = refl;
+  given = supplies_none (moment.fresh ∷ []) moment.drawn;
   steps_are = refl;
   done_are = refl;
   used_are = refl;
@@ -92,13 +90,12 @@ stays_still {tells} {mode} old new s t same moment = subst (λ x. CountsStill te
 
 -- one event, and the counts behind it
 abbrev pub counts_event : {tells : Bool} {mode : SyncMode} {s t : Stage} (e : Event) (old new : MomentState) → fault_of e ≡ None → Happens tells mode s e t
-    → Supplies old.time (old.fresh ∷ []) old.drawn (e ∷ []) (new.fresh ∷ []) new.drawn → new.time ≡ old.time
+    → Supplies (old.fresh ∷ []) old.drawn (e ∷ []) (new.fresh ∷ []) new.drawn
     → new.turn.steps ≡ raised (calls_by e) old.turn.steps → new.turn.done ≡ raised (uses_by e) old.turn.done → new.turn.used ≡ raised (ids_by e) old.turn.used → new.turn.deaf ≡ raised (deaf_by e) old.turn.deaf
     → new.turn.followed ≡ heard_if (news_by e) old.turn.followed → CountsOn tells mode old new s t
-counts_event {tells} {mode} {s} {t} e old new goes_on h given time steps done used deaf followed = record {
+counts_event {tells} {mode} {s} {t} e old new goes_on h given steps done used deaf followed = record {
   went = record { events = e ∷ []; run = (t, goes_on, h, refl) };
   given = given;
-  time_stays = time;
   steps_are = raised_once calls_by e old.turn.steps new.turn.steps steps;
   done_are = raised_once uses_by e old.turn.done new.turn.done done;
   used_are = raised_once ids_by e old.turn.used new.turn.used used;
@@ -106,24 +103,26 @@ counts_event {tells} {mode} {s} {t} e old new goes_on h given time steps done us
   followed_are = followed;
 }
 
+-- .. behind which the id that was drawn is left
+pub gives_none : (e : Event) (old new : MomentState) → IsGiven (old.fresh ∷ []) e (old.fresh ∷ []) → new.fresh ≡ old.fresh → Tells (moments_by e) old.drawn new.drawn → Supplies (old.fresh ∷ []) old.drawn (e ∷ []) (new.fresh ∷ []) new.drawn
+gives_none e old new given fresh told = subst (λ (id : List ℕ). Supplies (old.fresh ∷ []) old.drawn (e ∷ []) (id ∷ []) new.drawn) (sym fresh) (supplies_one e given told)
+
 -- .. in which nothing is given
-pub supplies_same : (e : Event) (old new : MomentState) → ((now : ℤ) (ids : List (List ℕ)) → IsGiven now ids e ids) → new.fresh ≡ old.fresh → new.drawn ≡ old.drawn → Supplies old.time (old.fresh ∷ []) old.drawn (e ∷ []) (new.fresh ∷ []) new.drawn
-supplies_same e old new none fresh drawn =
-    subst (λ (id : List ℕ). Supplies old.time (old.fresh ∷ []) old.drawn (e ∷ []) (id ∷ []) new.drawn) (sym fresh) (supplies_one old.time (old.fresh ∷ []) (old.fresh ∷ []) old.drawn new.drawn e (none old.time (old.fresh ∷ [])) drawn)
+pub supplies_same : (e : Event) (old new : MomentState) → moments_by e ≡ [] → ((ids : List (List ℕ)) → IsGiven ids e ids) → new.fresh ≡ old.fresh → new.drawn ≡ old.drawn → Supplies (old.fresh ∷ []) old.drawn (e ∷ []) (new.fresh ∷ []) new.drawn
+supplies_same e old new no_moment none fresh drawn = gives_none e old new (none (old.fresh ∷ [])) fresh (subst (λ ms. Tells ms old.drawn new.drawn) (sym no_moment) (tells_none drawn))
 
 -- .. that is no tick
 pub still_event : {tells : Bool} {mode : SyncMode} {s t : Stage} (e : Event) (old new : MomentState) → fault_of e ≡ None → ticks_by e ≡ 0 → Happens tells mode s e t
-    → Supplies old.time (old.fresh ∷ []) old.drawn (e ∷ []) (new.fresh ∷ []) new.drawn → new.time ≡ old.time
+    → Supplies (old.fresh ∷ []) old.drawn (e ∷ []) (new.fresh ∷ []) new.drawn
     → new.turn.steps ≡ raised (calls_by e) old.turn.steps → new.turn.done ≡ raised (uses_by e) old.turn.done → new.turn.used ≡ raised (ids_by e) old.turn.used → new.turn.deaf ≡ raised (deaf_by e) old.turn.deaf
     → new.turn.followed ≡ heard_if (news_by e) old.turn.followed → CountsStill tells mode old new s t
-still_event e old new goes_on none h given time steps done used deaf followed = record { counts = counts_event e old new goes_on h given time steps done used deaf followed; no_tick = sum_one ticks_by e ∙ none }
+still_event e old new goes_on none h given steps done used deaf followed = record { counts = counts_event e old new goes_on h given steps done used deaf followed; no_tick = sum_one ticks_by e ∙ none }
 
 -- .. of which nothing is counted
 pub still_one : {tells : Bool} {mode : SyncMode} {s t : Stage} (e : Event) (old new : MomentState) → fault_of e ≡ None → ticks_by e ≡ 0 → calls_by e ≡ 0 → uses_by e ≡ 0 → ids_by e ≡ 0 → deaf_by e ≡ 0 → news_by e ≡ None
-    → ((now : ℤ) (ids : List (List ℕ)) → IsGiven now ids e ids) → Happens tells mode s e t → new ≡ old → CountsStill tells mode old new s t
-still_one e old new goes_on no_tick calls uses ids deaf news none h same = still_event e old new goes_on no_tick h
-    (supplies_same e old new none (ap (λ (m : MomentState). m.fresh) same) (ap (λ (m : MomentState). m.drawn) same))
-    (ap (λ (m : MomentState). m.time) same)
+    → moments_by e ≡ [] → ((ids : List (List ℕ)) → IsGiven ids e ids) → Happens tells mode s e t → new ≡ old → CountsStill tells mode old new s t
+still_one e old new goes_on no_tick calls uses ids deaf news no_moment none h same = still_event e old new goes_on no_tick h
+    (supplies_same e old new no_moment none (ap (λ (m : MomentState). m.fresh) same) (ap (λ (m : MomentState). m.drawn) same))
     (ap (λ (m : MomentState). m.turn.steps) same ∙ ap (λ k. raised k old.turn.steps) (sym calls))
     (ap (λ (m : MomentState). m.turn.done) same ∙ ap (λ k. raised k old.turn.done) (sym uses))
     (ap (λ (m : MomentState). m.turn.used) same ∙ ap (λ k. raised k old.turn.used) (sym ids))
@@ -133,13 +132,13 @@ still_one e old new goes_on no_tick calls uses ids deaf news none h same = still
 -- ---- faults
 
 -- an event that is told as a fault
-pub broke_one : {tells : Bool} {mode : SyncMode} {now : ℤ} {unused : List (List ℕ)} {drawn after : Option (List (List ℕ))} {why : LoopFault} {s t : Stage} (e : Event) (left : List (List ℕ))
-    → fault_of e ≡ Some why → IsGiven now unused e left → after ≡ drawn → Happens tells mode s e t → Broke tells mode now unused drawn after why s t
-broke_one {tells} {mode} {now} {unused} {drawn} {after} {why} {s} {t} e left told given same h = record { before = s; went = went_nowhere s; last = e; told = told; happens = h; left = left; given = supplies_one now unused left drawn after e given same }
+pub broke_one : {tells : Bool} {mode : SyncMode} {unused : List (List ℕ)} {drawn after : DrawnState} {why : LoopFault} {s t : Stage} (e : Event) (left : List (List ℕ))
+    → fault_of e ≡ Some why → IsGiven unused e left → Tells (moments_by e) drawn after → Happens tells mode s e t → Broke tells mode unused drawn after why s t
+broke_one {tells} {mode} {unused} {drawn} {after} {why} {s} {t} e left told given tells_it h = record { before = s; went = went_nowhere s; last = e; told = told; happens = h; left = left; given = supplies_one e given tells_it }
 
 -- .. behind events that went on
-pub counts_broke : {tells : Bool} {mode : SyncMode} {old mid : MomentState} {after : Option (List (List ℕ))} {why : LoopFault} {a b c : Stage} → CountsOn tells mode old mid a b → Broke tells mode mid.time (mid.fresh ∷ []) mid.drawn after why b c
-    → Broke tells mode old.time (old.fresh ∷ []) old.drawn after why a c
+pub counts_broke : {tells : Bool} {mode : SyncMode} {old mid : MomentState} {after : DrawnState} {why : LoopFault} {a b c : Stage} → CountsOn tells mode old mid a b → Broke tells mode (mid.fresh ∷ []) mid.drawn after why b c
+    → Broke tells mode (old.fresh ∷ []) old.drawn after why a c
 counts_broke {tells} {mode} {old} {mid} {after} x y = record {
   before = y.before;
   went = went_further x.went y.went;
@@ -147,11 +146,11 @@ counts_broke {tells} {mode} {old} {mid} {after} x y = record {
   told = y.told;
   happens = y.happens;
   left = y.left;
-  given = subst (λ es. Supplies old.time (old.fresh ∷ []) old.drawn es y.left after) (sym (append_assoc x.went.events y.went.events (y.last ∷ []))) (supplies_on x.went.events (y.went.events ++ y.last ∷ []) x.given (supplies_at mid.time old.time x.time_stays y.given));
+  given = subst (λ es. Supplies (old.fresh ∷ []) old.drawn es y.left after) (sym (append_assoc x.went.events y.went.events (y.last ∷ []))) (supplies_on x.went.events (y.went.events ++ y.last ∷ []) x.given y.given);
 }
 
-pub still_broke : {tells : Bool} {mode : SyncMode} {old mid : MomentState} {after : Option (List (List ℕ))} {why : LoopFault} {a b c : Stage} → CountsStill tells mode old mid a b → Broke tells mode mid.time (mid.fresh ∷ []) mid.drawn after why b c
-    → Broke tells mode old.time (old.fresh ∷ []) old.drawn after why a c
+pub still_broke : {tells : Bool} {mode : SyncMode} {old mid : MomentState} {after : DrawnState} {why : LoopFault} {a b c : Stage} → CountsStill tells mode old mid a b → Broke tells mode (mid.fresh ∷ []) mid.drawn after why b c
+    → Broke tells mode (old.fresh ∷ []) old.drawn after why a c
 still_broke x y = counts_broke x.counts y
 
 -- what answers a fault broke
@@ -168,8 +167,8 @@ counts_moded {tells} {old} {new} {a} {b} m n e x = subst (λ k. CountsOn tells k
 pub went_moded : {tells : Bool} {a b : Stage} (m n : SyncMode) → m ≡ n → Went tells m a b → Went tells n a b
 went_moded {tells} {a} {b} m n e x = subst (λ k. Went tells k a b) e x
 
-pub broke_moded : {tells : Bool} {now : ℤ} {unused : List (List ℕ)} {drawn after : Option (List (List ℕ))} {why : LoopFault} {a b : Stage} (m n : SyncMode) → m ≡ n → Broke tells m now unused drawn after why a b → Broke tells n now unused drawn after why a b
-broke_moded {tells} {now} {unused} {drawn} {after} {why} {a} {b} m n e x = subst (λ k. Broke tells k now unused drawn after why a b) e x
+pub broke_moded : {tells : Bool} {unused : List (List ℕ)} {drawn after : DrawnState} {why : LoopFault} {a b : Stage} (m n : SyncMode) → m ≡ n → Broke tells m unused drawn after why a b → Broke tells n unused drawn after why a b
+broke_moded {tells} {unused} {drawn} {after} {why} {a} {b} m n e x = subst (λ k. Broke tells k unused drawn after why a b) e x
 
 -- ---- a turn
 
@@ -184,88 +183,85 @@ no_listener _ e = cc
 err_is : {A : Type 0} (why other : LoopFault) → ◌≡◌ {A = Result A LoopFault} (Err why) (Err other) → why ≡ other
 err_is why other e = cc
 
-pub never_listener : {A : Type 0} {tells : Bool} {mode : SyncMode} {now : ℤ} {unused : List (List ℕ)} {drawn after : Option (List (List ℕ))} {s t : Stage} (why : LoopFault) → Broke tells mode now unused drawn after why s t → ◌≡◌ {A = Result A LoopFault} (Err why) (Err fault.Listener) → ⊥
+pub never_listener : {A : Type 0} {tells : Bool} {mode : SyncMode} {unused : List (List ℕ)} {drawn after : DrawnState} {s t : Stage} (why : LoopFault) → Broke tells mode unused drawn after why s t → ◌≡◌ {A = Result A LoopFault} (Err why) (Err fault.Listener) → ⊥
 never_listener {A} why broke e = no_listener broke.last (broke.told ∙ ap Some (err_is {A = A} why fault.Listener e))
 
-pub breaks_down : {tells : Bool} {mode : SyncMode} {now : ℤ} {unused : List (List ℕ)} {drawn after : Option (List (List ℕ))} {s b t : Stage} (why : LoopFault) → Broke tells mode now unused drawn after why s b → IsToldToStop b t
-    → Fails tells mode now unused drawn after why s t
+pub breaks_down : {tells : Bool} {mode : SyncMode} {unused : List (List ℕ)} {drawn after : DrawnState} {s b t : Stage} (why : LoopFault) → Broke tells mode unused drawn after why s b → IsToldToStop b t
+    → Fails tells mode unused drawn after why s t
 breaks_down fault.Listener broke stopped = absurd (no_listener broke.last broke.told)
-breaks_down {tells} {mode} {now} {unused} {drawn} {after} {s} {b} {t} fault.File broke stopped = record { behind = b; broke = broke; stopped = stopped }
-breaks_down {tells} {mode} {now} {unused} {drawn} {after} {s} {b} {t} fault.Stopped broke stopped = record { behind = b; broke = broke; stopped = stopped }
+breaks_down {tells} {mode} {unused} {drawn} {after} {s} {b} {t} fault.File broke stopped = record { behind = b; broke = broke; stopped = stopped }
+breaks_down {tells} {mode} {unused} {drawn} {after} {s} {b} {t} fault.Stopped broke stopped = record { behind = b; broke = broke; stopped = stopped }
 
 -- ---- the wait before a turn
 
 still_zero : (f : Event → ℕ) (e : Event) (es : List Event) → f e ≡ 0 → sum_in f (e ∷ es) ≡ sum_in f es
 still_zero f e es none = omega (arith, none)
 
-abbrev waited_went : {tells : Bool} {mode : SyncMode} {s m t : Stage} → HasWaited s m → Went tells mode m t → Went tells mode s t
-waited_went {tells} {mode} {s} {m} {t} first w = record { events = waits ∷ w.events; run = (m, refl, first, w.run) }
+abbrev waited_went : {tells : Bool} {mode : SyncMode} {s m t : Stage} (now : ℤ) → HasWaited s m → Went tells mode m t → Went tells mode s t
+waited_went {tells} {mode} {s} {m} {t} now wakes_up w = record { events = wakes now ∷ w.events; run = (m, refl, wakes_up, w.run) }
 
-none_given : (now : ℤ) (ids : List (List ℕ)) → IsGiven now ids waits ids
-none_given now ids = refl
-
--- the first id of a turn is drawn behind it
-waited_down : {tells : Bool} {mode : SyncMode} {now : ℤ} {drawn after : Option (List (List ℕ))} {why : LoopFault} {s m t : Stage} (id : List ℕ) (first_drawn : Option (List (List ℕ))) → first_drawn ≡ with_ids (id ∷ []) drawn → HasWaited s m
-    → BreaksDown tells mode now (id ∷ []) first_drawn after why m t → BreaksDown tells mode now [] drawn after why s t
-waited_down {tells} {mode} {now} id first_drawn gives first h = record {
+-- the first id of a turn is drawn behind it, and then the time is told
+waited_down : {tells : Bool} {mode : SyncMode} {drawn after : DrawnState} {why : LoopFault} {s m t : Stage} (id : List ℕ) (now : ℤ) (first : DrawnState) → first ≡ with_moment now (with_id id drawn) → drawn.clock ≤ℤ now → HasWaited s m
+    → BreaksDown tells mode (id ∷ []) first after why m t → BreaksDown tells mode [] drawn after why s t
+waited_down id now first is forward wakes_up h = record {
   behind = h.behind;
   broke = record {
     before = h.broke.before;
-    went = waited_went first h.broke.went;
+    went = waited_went now wakes_up h.broke.went;
     last = h.broke.last;
     told = h.broke.told;
     happens = h.broke.happens;
     left = h.broke.left;
-    given = supplies_first id first_drawn (waits ∷ h.broke.went.events ++ h.broke.last ∷ []) gives (supplies_behind waits (h.broke.went.events ++ h.broke.last ∷ []) (none_given now) h.broke.given);
+    given = supplies_first id now first (h.broke.went.events ++ h.broke.last ∷ []) is forward h.broke.given;
   };
   stopped = h.stopped;
 }
 
-pub waited_turns : (tells : Bool) (mode : SyncMode) (now : ℤ) (id : List ℕ) (drawn first_drawn after : Option (List (List ℕ))) (s m t : Stage) (r : Result Turn LoopFault) → first_drawn ≡ with_ids (id ∷ []) drawn → HasWaited s m → (r ≡ Err fault.Listener → ⊥)
-    → Turns tells mode now (id ∷ []) first_drawn after r m t → Turns tells mode now [] drawn after r s t
-waited_turns tells mode now id drawn first_drawn after s m t (Ok turn) gives first other h = record {
-  went = waited_went first h.went;
+pub waited_turns : (tells : Bool) (mode : SyncMode) (id : List ℕ) (now : ℤ) (drawn first after : DrawnState) (s m t : Stage) (r : Result Turn LoopFault) → first ≡ with_moment now (with_id id drawn) → drawn.clock ≤ℤ now → HasWaited s m → (r ≡ Err fault.Listener → ⊥)
+    → Turns tells mode (id ∷ []) first after r m t → Turns tells mode [] drawn after r s t
+waited_turns tells mode id now drawn first after s m t (Ok turn) is forward wakes_up other h = record {
+  went = waited_went now wakes_up h.went;
   left = h.left;
-  given = supplies_first id first_drawn (waits ∷ h.went.events) gives (supplies_behind waits h.went.events (none_given now) h.given);
-  steps_are = h.steps_are ∙ ap counted (sym (still_zero calls_by waits h.went.events refl));
-  done_are = h.done_are ∙ ap counted (sym (still_zero uses_by waits h.went.events refl));
-  used_are = h.used_are ∙ ap counted (sym (still_zero ids_by waits h.went.events refl));
-  deaf_are = h.deaf_are ∙ ap counted (sym (still_zero deaf_by waits h.went.events refl));
+  given = supplies_first id now first h.went.events is forward h.given;
+  steps_are = h.steps_are ∙ ap counted (sym (still_zero calls_by (wakes now) h.went.events refl));
+  done_are = h.done_are ∙ ap counted (sym (still_zero uses_by (wakes now) h.went.events refl));
+  used_are = h.used_are ∙ ap counted (sym (still_zero ids_by (wakes now) h.went.events refl));
+  deaf_are = h.deaf_are ∙ ap counted (sym (still_zero deaf_by (wakes now) h.went.events refl));
   followed_are = h.followed_are;
-  ticked = omega (arith, h.ticked, still_zero ticks_by waits h.went.events refl);
-  few = omega (arith, h.few, still_zero ticks_by waits h.went.events refl);
-  keeps_up = λ due. let kept = h.keeps_up due in (still_zero ticks_by waits h.went.events refl ∙ kept.0, kept.1);
+  ticked = omega (arith, h.ticked, still_zero ticks_by (wakes now) h.went.events refl);
+  few = omega (arith, h.few, still_zero ticks_by (wakes now) h.went.events refl);
+  keeps_up = λ due. let kept = h.keeps_up due in (still_zero ticks_by (wakes now) h.went.events refl ∙ kept.0, kept.1);
   halted = h.halted;
 }
-waited_turns tells mode now id drawn first_drawn after s m t (Err fault.Listener) gives first other h = absurd (other refl)
-waited_turns tells mode now id drawn first_drawn after s m t (Err fault.File) gives first other h = waited_down id first_drawn gives first h
-waited_turns tells mode now id drawn first_drawn after s m t (Err fault.Stopped) gives first other h = waited_down id first_drawn gives first h
+waited_turns tells mode id now drawn first after s m t (Err fault.Listener) is forward wakes_up other h = absurd (other refl)
+waited_turns tells mode id now drawn first after s m t (Err fault.File) is forward wakes_up other h = waited_down id now first is forward wakes_up h
+waited_turns tells mode id now drawn first after s m t (Err fault.Stopped) is forward wakes_up other h = waited_down id now first is forward wakes_up h
 
 -- ---- turns one after another
 
-pub has_turned : {tells halted : Bool} {now : ℤ} {drawn after : Option (List (List ℕ))} {turn : Turn} {s t : Stage} (m n : SyncMode) → m ≡ n → TellsOf tells m now [] drawn after turn s t → turn.halted ≡ halted → HasTurned tells n halted drawn after s t
-has_turned {tells} {halted} {now} {drawn} {after} {turn} {s} {t} m n mode h is = record { now = now; turn = turn; tells_of = subst (λ k. TellsOf tells k now [] drawn after turn s t) mode h; is = is }
+pub has_turned : {tells halted : Bool} {drawn after : DrawnState} {turn : Turn} {s t : Stage} (m n : SyncMode) → m ≡ n → TellsOf tells m [] drawn after turn s t → turn.halted ≡ halted → HasTurned tells n halted drawn after s t
+has_turned {tells} {halted} {drawn} {after} {turn} {s} {t} m n mode h is = record { turn = turn; tells_of = subst (λ k. TellsOf tells k [] drawn after turn s t) mode h; is = is }
 
 -- one turn more
-pub turned_on : {tells : Bool} {mode : SyncMode} {between after : Option (List (List ℕ))} {m t : Stage} (drawn : Option (List (List ℕ))) (s : Stage) (n k : ℕ) → k ≡ suc n → TurnsOn tells mode n drawn between s m → HasTurned tells mode false between after m t → TurnsOn tells mode k drawn after s t
+pub turned_on : {tells : Bool} {mode : SyncMode} {between after : DrawnState} {m t : Stage} (drawn : DrawnState) (s : Stage) (n k : ℕ) → k ≡ suc n → TurnsOn tells mode n drawn between s m → HasTurned tells mode false between after m t → TurnsOn tells mode k drawn after s t
 turned_on {tells} {mode} {between} {after} {m} {t} drawn s n k e went turned = subst (λ z. TurnsOn tells mode z drawn after s t) (sym e) (m, between, went, turned)
 
 -- all were made
-pub serves_all : {tells : Bool} {mode : SyncMode} {drawn after : Option (List (List ℕ))} {s t : Stage} (turns count : ℕ) → count ≡ turns → TurnsOn tells mode count drawn after s t → Serves tells mode turns (Ok tt) drawn after s t
+pub serves_all : {tells : Bool} {mode : SyncMode} {drawn after : DrawnState} {s t : Stage} (turns count : ℕ) → count ≡ turns → TurnsOn tells mode count drawn after s t → Serves tells mode turns (Ok tt) drawn after s t
 serves_all {tells} {mode} {drawn} {after} {s} {t} turns count all went = record { count = count; before = t; between = after; went = went; last = inl (all, refl, refl) }
 
 -- .. or a client asked in one that the program end
-pub serves_halted : {tells : Bool} {mode : SyncMode} {drawn between after : Option (List (List ℕ))} {s b t : Stage} (turns count : ℕ) → count < turns → TurnsOn tells mode count drawn between s b → HasTurned tells mode true between after b t
+pub serves_halted : {tells : Bool} {mode : SyncMode} {drawn between after : DrawnState} {s b t : Stage} (turns count : ℕ) → count < turns → TurnsOn tells mode count drawn between s b → HasTurned tells mode true between after b t
     → Serves tells mode turns (Ok tt) drawn after s t
 serves_halted {tells} {mode} {drawn} {between} {after} {s} {b} {t} turns count few went turned = record { count = count; before = b; between = between; went = went; last = inr (few, turned) }
 
 -- .. or one met a fault
-pub serves_behind : {tells : Bool} {drawn after : Option (List (List ℕ))} {s t : Stage} (between : Option (List (List ℕ))) (b : Stage) (now : ℤ) (m n : SyncMode) (turns count : ℕ) (r : Result (Unit {0}) LoopFault) (why : LoopFault) → r ≡ Err why → m ≡ n → count < turns
-    → TurnsOn tells n count drawn between s b → Fails tells m now [] between after why b t → Serves tells n turns r drawn after s t
-serves_behind {tells} {drawn} {after} {s} {t} between b now m n turns count r why told mode few went turn = record {
+pub serves_behind : {tells : Bool} {drawn after : DrawnState} {s t : Stage} (between : DrawnState) (b : Stage) (m n : SyncMode) (turns count : ℕ) (r : Result (Unit {0}) LoopFault) (why : LoopFault) → r ≡ Err why → m ≡ n → count < turns
+    → TurnsOn tells n count drawn between s b → Fails tells m [] between after why b t → Serves tells n turns r drawn after s t
+serves_behind {tells} {drawn} {after} {s} {t} between b m n turns count r why told mode few went turn = record {
   count = count;
   before = b;
   between = between;
   went = went;
-  last = subst (λ (z : Result (Unit {0}) LoopFault). Ends tells n turns count z between after b t) (sym told) (few, now, subst (λ k. Fails tells k now [] between after why b t) mode turn);
+  last = subst (λ (z : Result (Unit {0}) LoopFault). Ends tells n turns count z between after b t) (sym told) (few, subst (λ k. Fails tells k [] between after why b t) mode turn);
 }

@@ -19,7 +19,7 @@ use Rattle.mr_loop.specs.declared.fault.LoopFault.{LoopFault}
 use Rattle.mr_loop.specs.Stage.{Stage, LoopState, connection_at, with_connections}
 use Rattle.mr_loop.specs.Carrying.{Carries, Carried, IsRewritten, SameFile}
 use Rattle.mr_loop.specs.Causes.{Act, Calls, at_dial, at_step, at_tick}
-use Rattle.mr_loop.specs.Rows.{Event, fault_of, Happens, IsAppended, Run, acts, appends, breaks, closes, fails, finds_none, hears_end, idles, is_deaf, is_refused, joins, loses, misses, misses_dial, misses_tick, settles, spills, stops, takes, tears, turns_away, waits, writes}
+use Rattle.mr_loop.specs.Rows.{Event, fault_of, Happens, IsAppended, Run, acts, appends, breaks, closes, fails, finds_none, hears_end, idles, is_deaf, is_refused, joins, loses, misses, misses_dial, misses_tick, settles, spills, stops, takes, tears, turns_away, waits, wakes, writes}
 use Rattle.mr_loop.specs.Sent.{drops, filed_by, filed_in, files, moved_by, moved_in, parts, parts_with, sends, sent_by, sent_in, StaysIn, IsInOrder, GoesOutInOrder, IsSyncedWhole, IsFiledFirst, IsSentOnceFiled, IsSilent, IsSilentBehindFaults}
 use Rattle.mr_loop.proofs.Carried.{carried_by, spilled_wire, torn_wire}
 use Rattle.mr_loop.proofs.Halting.{no_fault}
@@ -211,6 +211,7 @@ by_stage e = ap (λ (z : Stage). z.own.connections) e
 
 module _ (tells : Bool) (mode : SyncMode) where
   pub kept : (e : Event) (s t : Stage) (k : LinkId) (c : ConnectionState) → connection_at s.own k ≡ Some c → fault_of e ≡ None → drops k e ≡ false → Happens tells mode s e t → Kept k c e t.own
+  kept (wakes now) s t k c here goes_on stays h = same_own (wakes now) s.own t.own k c here (by_stage h.is) refl (λ l. refl) (λ l. refl)
   kept waits s t k c here goes_on stays h = same_own waits s.own t.own k c here (by_stage h.is) refl (λ l. refl) (λ l. refl)
   kept (joins j l) s t k c here goes_on stays h = unchanged k c (joins j l) t.own (begun_other s.own t.own j k (begun l) c h.fresh here h.connections) refl (λ l. refl) (λ l. refl)
   kept turns_away s t k c here goes_on stays h = same_own turns_away s.own t.own k c here (by_own h.own) refl (λ l. refl) (λ l. refl)
@@ -358,6 +359,7 @@ batch_of e = ap (λ (z : LoopState). z.batch) e
 
 module _ (tells : Bool) (mode : SyncMode) where
   filed : (e : Event) (s t : Stage) (xs : List ℕ) → fault_of e ≡ None → Happens tells mode s e t → Holds s xs → Holds t (filed_by e xs)
+  filed (wakes now) s t xs goes_on h held = holds_same s t xs (ap (λ (z : Stage). z.told) h.is) (ap (λ (z : Stage). z.own.batch) h.is) held
   filed waits s t xs goes_on h held = holds_same s t xs (ap (λ (z : Stage). z.told) h.is) (ap (λ (z : Stage). z.own.batch) h.is) held
   filed (joins j l) s t xs goes_on h held = holds_same s t xs h.file.0 h.batch held
   filed turns_away s t xs goes_on h held = holds_same s t xs h.file.0 (batch_of h.own) held
@@ -390,6 +392,7 @@ module _ (tells : Bool) (mode : SyncMode) where
 module _ (tells : Bool) (P : Stage → Type 0) (same : (s t : Stage) → SameFile s t → t.own.batch ≡ s.own.batch → P s → P t) (carries : (out : OutState) (s t : Stage) → Carries out s t → P s → P t)
     (synced : (t : Stage) → IsSynced t.told t.synced → P t) where
   lasts : (e : Event) (s t : Stage) → fault_of e ≡ None → Happens tells sync.Always s e t → P s → P t
+  lasts (wakes now) s t goes_on h held = same s t (ap (λ (z : Stage). z.told) h.is, ap (λ (z : Stage). z.synced) h.is) (ap (λ (z : Stage). z.own.batch) h.is) held
   lasts waits s t goes_on h held = same s t (ap (λ (z : Stage). z.told) h.is, ap (λ (z : Stage). z.synced) h.is) (ap (λ (z : Stage). z.own.batch) h.is) held
   lasts (joins j l) s t goes_on h held = same s t h.file h.batch held
   lasts turns_away s t goes_on h held = same s t h.file (batch_of h.own) held
@@ -535,4 +538,4 @@ module _ (tells : Bool) (mode : SyncMode) where
   silent _ why s t told h = absurd (not_told told)
 
 pub is_silent_behind_faults : IsSilentBehindFaults
-is_silent_behind_faults tells mode now unused drawn after why s t b = silent_on (ap (λ (z : Stage). z.wire) b.stopped.is) (silent tells mode b.broke.last why b.broke.before b.behind b.broke.told b.broke.happens)
+is_silent_behind_faults tells mode unused drawn after why s t b = silent_on (ap (λ (z : Stage). z.wire) b.stopped.is) (silent tells mode b.broke.last why b.broke.before b.behind b.broke.told b.broke.happens)

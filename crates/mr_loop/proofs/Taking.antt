@@ -1,5 +1,5 @@
 -- What a step takes of the ids: the one that it is given, or none.
-use Rattle.std.proofs.Common.{◌≡◌, ◌⊎◌, inl, inr, ℕ, ℤ, List, [], ◌∷◌, Bool, true, Option, None, Some, Result, Ok, refl, sym, ap, subst, ◌∙◌}
+use Rattle.std.proofs.Common.{◌≡◌, ◌⊎◌, inl, inr, ℕ, ℤ, List, true, Option, None, Some, Result, Ok, refl, ap, ◌∙◌}
 use Rattle.mr_links.specs.declared.link_id.LinkId.{LinkId}
 use Rattle.mr_data.specs.declared.given.Given.{Given}
 use Rattle.mr_course.specs.State.{name_of}
@@ -19,12 +19,7 @@ use Rattle.mr_node.specs.Steps.{Steps}
 use Rattle.mr_node.specs.declared.fault.NodeFault.{NodeFault}
 use Rattle.mr_node.specs.declared.step.Step.{Step}
 use Rattle.mr_node.specs.declared.step.Step.TheVariants as step
-use Rattle.mr_loop.specs.declared.followed.News.{News}
-use Rattle.mr_loop.specs.Causes.{Stepped, at_step}
-use Rattle.mr_loop.specs.Rows.{acts}
-use Rattle.mr_loop.specs.Giving.{Supplies}
-use Rattle.mr_loop.specs.Counting.{MomentState, Renewed}
-use Rattle.mr_loop.proofs.Supplying.{supplies_step}
+use Rattle.mr_loop.specs.Causes.{Stepped}
 
 used_of : {o p : OutsState} → o ≡ p → o.used ≡ p.used
 used_of e = ap (λ (o : OutsState). o.used) e
@@ -87,17 +82,3 @@ takes_at a b l u given fresh outs is_up (shut is none) row = absurd (done_closed
 -- the id that it is given, or none
 pub step_takes : (a b : NodeState) (l : LinkId) (given : Given) (fresh : List ℕ) (outs : OutsState) → Stepped a l given fresh b (Ok (step.Done outs)) → (outs.used ≡ None) ⊎ (outs.used ≡ Some fresh)
 step_takes a b l given fresh outs s = takes_at a b l s.input.unread.bytes given fresh outs s.input.unread.up s.input.unread.agree s.row
-
--- what the source gives to it, and behind it
-pub stepped_with : (old mid new : MomentState) (socket link : LinkId) (given : Given) (fresh : List ℕ) (news : Option News) (outs : OutsState) → given.now ≡ old.time → fresh ≡ old.fresh → mid ≡ record old { turn = mid.turn }
-    → (outs.used ≡ None) ⊎ (outs.used ≡ Some fresh) → Renewed outs.used mid new → Supplies old.time (old.fresh ∷ []) old.drawn (acts (at_step socket link given fresh news) outs ∷ []) (new.fresh ∷ []) new.drawn
-stepped_with old mid new socket link given fresh news outs at id still takes took =
-    let time : old.time ≡ mid.time = sym (ap (λ (m : MomentState). m.time) still) in
-    let first : old.fresh ≡ mid.fresh = sym (ap (λ (m : MomentState). m.fresh) still) in
-    let drawn : old.drawn ≡ mid.drawn = sym (ap (λ (m : MomentState). m.drawn) still) in
-    let is : fresh ≡ mid.fresh = id ∙ first in
-    subst (λ now. Supplies now (old.fresh ∷ []) old.drawn (acts (at_step socket link given fresh news) outs ∷ []) (new.fresh ∷ []) new.drawn) (sym time)
-    (subst (λ x. Supplies mid.time (x ∷ []) old.drawn (acts (at_step socket link given fresh news) outs ∷ []) (new.fresh ∷ []) new.drawn) (sym first)
-    (subst (λ d. Supplies mid.time (mid.fresh ∷ []) d (acts (at_step socket link given fresh news) outs ∷ []) (new.fresh ∷ []) new.drawn) (sym drawn)
-    (subst (λ x. Supplies mid.time (mid.fresh ∷ []) mid.drawn (acts (at_step socket link given x news) outs ∷ []) (new.fresh ∷ []) new.drawn) (sym is)
-    (supplies_step mid new socket link given news outs (at ∙ time) (subst (λ x. (outs.used ≡ None) ⊎ (outs.used ≡ Some x)) is takes) took))))

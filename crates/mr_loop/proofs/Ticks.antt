@@ -1,5 +1,5 @@
 -- How time passes in a turn: ticks one after another, and what one that deletes nothing leaves due.
-use Rattle.std.proofs.Common.{◌≡◌, ◌<◌, ◌+◌, ◌-◌, ◌++◌, ◌&&◌, nat_le, ℕ, ℤ, List, [], ◌∷◌, Bool, true, false, length, flat_map, Option, None, Some, Result, Err, if◌then◌else◌, arith, refl, sym, ap, subst, ◌∙◌}
+use Rattle.std.proofs.Common.{◌≡◌, ◌<◌, ◌≤ℤ◌, ◌+◌, ◌-◌, ◌++◌, ◌&&◌, nat_le, ℕ, ℤ, List, [], ◌∷◌, Bool, true, false, length, flat_map, Option, None, Some, Result, Err, if◌then◌else◌, arith, refl, sym, ap, subst, ◌∙◌}
 use Rattle.std.specs.Option.{option_and_then}
 use Rattle.mr_resp.specs.Spelling.{bulk, number_line}
 use Rattle.mr_effect.specs.Effects.{has_spelling, words_fit}
@@ -11,6 +11,7 @@ use Rattle.mr_entries.specs.Dataset.{Dataset}
 use Rattle.mr_data.specs.Due.{deletions, due, within}
 use Rattle.mr_data.specs.Meaning.{apply, apply_all}
 use Rattle.mr_data.specs.declared.given.Given.{Given}
+use Rattle.mr_source.specs.Drawn.{DrawnState, with_moment}
 use Rattle.mr_repl.specs.Backlog.{offset_limit}
 use Rattle.mr_file.specs.declared.sync_mode.SyncMode.{SyncMode}
 use Rattle.mr_outs.specs.Outs.{OutsState, outs_of}
@@ -34,9 +35,8 @@ use Rattle.mr_loop.specs.Hosts.{moment_in, stage_in}
 use Rattle.mr_loop.specs.Outcomes.{HasBroken}
 use Rattle.mr_loop.specs.Rows.{Event, MissesTick, acts, misses_tick}
 use Rattle.mr_loop.proofs.Carried.{carried_core}
-use Rattle.mr_loop.proofs.Outs.{gives_none}
-use Rattle.mr_loop.proofs.Runs.{broke_moded, counts_broke, counts_event, counts_none, counts_on, sum_append}
-use Rattle.mr_loop.proofs.Supplying.{renewed_none}
+use Rattle.mr_loop.proofs.Runs.{broke_moded, counts_broke, counts_event, counts_none, counts_on, gives_none, sum_append}
+use Rattle.mr_loop.proofs.Supplying.{renewed_none, tells_one}
 use Rattle.mr_loop.proofs.Taking.{tick_takes}
 use Rattle.mr_loop.proofs.Waiting.{none_some, some_is}
 
@@ -132,14 +132,13 @@ missed_same a b now refusal.InputFull other row = absurd row
 -- ---- one tick
 
 pub ticks_once : {tells : Bool} {mode : SyncMode} (s t : Stage) (n : NodeState) (given : Given) (outs : OutsState) (old mid new : MomentState) → TickRow s.node given.now n outs → IsSound n → Carried (outs_of outs) (record s { node = n }) t
-    → given.now ≡ old.time → mid ≡ old → Renewed outs.used mid new
+    → old.drawn.clock ≤ℤ given.now → mid ≡ record old { drawn = with_moment given.now old.drawn } → Renewed outs.used mid new
     → Passes tells mode 1 old new s t
-ticks_once s t n given outs old mid new row sound carried at still took =
+ticks_once s t n given outs old mid new row sound carried forward one took =
     let none = tick_takes s.node n given.now outs row in
-    let same : new ≡ old = renewed_none outs.used mid new none took ∙ still in record {
+    let same : new ≡ record old { drawn = with_moment given.now old.drawn } = renewed_none outs.used mid new none took ∙ one in record {
       counts = counts_event (acts (at_tick given) outs) old new refl (record { called = record s { node = n }; calls = record { row = row; sound = sound; same = refl }; carried = carried })
-          (gives_none (acts (at_tick given) outs) old new (at, none, refl) (ap (λ (m : MomentState). m.fresh) same) (ap (λ (m : MomentState). m.drawn) same))
-          (ap (λ (m : MomentState). m.time) same)
+          (gives_none (acts (at_tick given) outs) old new (none, refl) (ap (λ (m : MomentState). m.fresh) same) (tells_one forward (ap (λ (m : MomentState). m.drawn) same)))
           (ap (λ (m : MomentState). m.turn.steps) same)
           (ap (λ (m : MomentState). m.turn.done) same)
           (ap (λ (m : MomentState). m.turn.used) same ∙ ap (λ (u : Option (List ℕ)). raised (one_where u) old.turn.used) (sym none))
@@ -150,11 +149,10 @@ ticks_once s t n given outs old mid new row sound carried at still took =
     }
 
 -- one for which memory ran out
-pub misses_once : {tells : Bool} {mode : SyncMode} (s t : Stage) (given : Given) (old new : MomentState) → given.now ≡ old.time → new ≡ old → MissesTick s t → Passes tells mode 1 old new s t
-misses_once s t given old new at same misses = record {
+pub misses_once : {tells : Bool} {mode : SyncMode} (s t : Stage) (given : Given) (old new : MomentState) → old.drawn.clock ≤ℤ given.now → new ≡ record old { drawn = with_moment given.now old.drawn } → MissesTick s t → Passes tells mode 1 old new s t
+misses_once s t given old new forward same misses = record {
   counts = counts_event (misses_tick given) old new refl misses
-      (gives_none (misses_tick given) old new (at, refl) (ap (λ (m : MomentState). m.fresh) same) (ap (λ (m : MomentState). m.drawn) same))
-      (ap (λ (m : MomentState). m.time) same)
+      (gives_none (misses_tick given) old new refl (ap (λ (m : MomentState). m.fresh) same) (tells_one forward (ap (λ (m : MomentState). m.drawn) same)))
       (ap (λ (m : MomentState). m.turn.steps) same)
       (ap (λ (m : MomentState). m.turn.done) same)
       (ap (λ (m : MomentState). m.turn.used) same)
@@ -195,7 +193,7 @@ some_ticks n = omega arith
 true_false : (b : Bool) → b ≡ true → b ≡ false → ⊥
 true_false b is not = let wrong : true ≡ false = sym is ∙ not in cc
 
-module _ {W F S : Type 0} (tells : Bool) (links : W → WireState) (failures : W → ℕ) (told : F → Option (List ℕ)) (synced : F → Option ℕ) (drawn : S → Option (List (List ℕ))) where
+module _ {W F S : Type 0} (tells : Bool) (links : W → WireState) (failures : W → ℕ) (told : F → Option (List ℕ)) (synced : F → Option ℕ) (drawn : S → DrawnState) where
   -- none is left
   pub all_passed : (a b : Host W F S) (left done : ℕ) → left ≡ 0
       → PassesSoFar tells a.log.now.mode (most_ticks done) left (moment_in drawn a) (moment_in drawn b) (stage_in links failures told synced a) (stage_in links failures told synced b) → PassesOn tells links failures told synced drawn true (most_ticks done) a b
@@ -204,7 +202,7 @@ module _ {W F S : Type 0} (tells : Bool) (links : W → WireState) (failures : W
   -- .. or nothing more is due
   pub enough_passed : (a b : Host W F S) (left less most : ℕ) (mid : MomentState) (s : Stage) (more : Bool) → left ≡ less + 1
       → PassesSoFar tells a.log.now.mode most left (moment_in drawn a) mid (stage_in links failures told synced a) s → Passes tells a.log.now.mode 1 mid (moment_in drawn b) s (stage_in links failures told synced b)
-      → (IsTickDue a.moment.time b.node.now → more ≡ true) → more ≡ false → PassesOn tells links failures told synced drawn false most a b
+      → (IsTickDue (drawn b.source.now).clock b.node.now → more ≡ true) → more ≡ false → PassesOn tells links failures told synced drawn false most a b
   enough_passed a b left less most mid s more one so next keeps ends = record {
     count = so.count + 1;
     went = passes_on so.went next;

@@ -2,6 +2,7 @@
 use Rattle.std.proofs.Common.{◌≡◌, ◌≢◌, ◌<◌, ◌≤◌, ◌+◌, ◌++◌, ℕ, ℤ, zero, suc, List, [], ◌∷◌, Bool, true, Option, Result, Err, refl, sym, ap, subst, ◌∙◌, arith}
 use Rattle.mr_file.specs.declared.sync_mode.SyncMode.{SyncMode}
 use Rattle.mr_data.specs.Due.{deletions}
+use Rattle.mr_source.specs.Drawn.{DrawnState}
 use Rattle.mr_rows.specs.State.{Core, NodeState}
 use Rattle.mr_rows.specs.TimeRows.{room_in}
 use Rattle.mr_wire.specs.Wire.{WireState}
@@ -38,10 +39,10 @@ due_core now a b same due = record { master = subst (λ (z : Core). z.master ≡
 pub told_of : {tells : Bool} {mode : SyncMode} {s t u v w : Stage} (begun old mid new : MomentState) (turn : Turn) (count most : ℕ) (more hurries : Bool)
     → begun.turn ≡ nothing_counted → CountsStill tells mode begun old s t → Passes tells mode count old mid t u → CountsStill tells mode mid new u v → new ≡ mid
     → w ≡ record v { own = record v.own { hurries = hurries } } → turn ≡ record new.turn { halted = v.own.halted } → v.node.core ≡ u.node.core
-    → 0 < count → count ≤ most → most ≡ most_ticks old.turn.done → (IsTickDue begun.time u.node → (count ≡ most) × (more ≡ true)) → (more ≡ true → hurries ≡ true)
-    → TellsOf tells mode begun.time (begun.fresh ∷ []) begun.drawn new.drawn turn s w
+    → 0 < count → count ≤ most → most ≡ most_ticks old.turn.done → (IsTickDue mid.drawn.clock u.node → (count ≡ most) × (more ≡ true)) → (more ≡ true → hurries ≡ true)
+    → TellsOf tells mode (begun.fresh ∷ []) begun.drawn new.drawn turn s w
 told_of {tells} {mode} {s} {t} {u} {v} {w} begun old mid new turn count most more hurries first x p y same last is core some few bound due hurry =
-    let settled : CountsOn tells mode new new v w = counts_event (settles hurries) new new refl (record { is = last }) (supplies_same (settles hurries) new new (λ now ids. refl) refl refl) refl refl refl refl refl refl in
+    let settled : CountsOn tells mode new new v w = counts_event (settles hurries) new new refl (record { is = last }) (supplies_same (settles hurries) new new refl (λ ids. refl) refl refl) refl refl refl refl refl in
     let all = counts_on x.counts (counts_on p.counts (counts_on y.counts settled)) in
     let xs = x.counts.went.events in let ps = p.counts.went.events in let ys = y.counts.went.events in let zs = settled.went.events in
     let ticks : sum_in ticks_by all.went.events ≡ count =
@@ -59,7 +60,8 @@ told_of {tells} {mode} {s} {t} {u} {v} {w} begun old mid new turn count most mor
       ticked = omega (arith, ticks, some);
       few = let least : most_ticks turn.done ≡ most = ap most_ticks done ∙ sym bound in omega (arith, ticks, few, least);
       keeps_up = λ d.
-          let kept = due (due_core begun.time u.node v.node core (subst (λ (z : Stage). IsTickDue begun.time z.node) last d)) in
+          let clock : new.drawn.clock ≡ mid.drawn.clock = ap (λ (z : MomentState). z.drawn.clock) same in
+          let kept = due (due_core mid.drawn.clock u.node v.node core (subst (λ now. IsTickDue now v.node) clock (subst (λ (z : Stage). IsTickDue new.drawn.clock z.node) last d))) in
           (ticks ∙ (kept.0 ∙ (bound ∙ ap most_ticks (sym done))), ap (λ (z : Stage). z.own.hurries) last ∙ hurry kept.1);
       halted = ap (λ (z : Turn). z.halted) is ∙ sym (ap (λ (z : Stage). z.own.halted) last);
     }
@@ -67,9 +69,9 @@ told_of {tells} {mode} {s} {t} {u} {v} {w} begun old mid new turn count most mor
 pub tells_broke : {tells : Bool} {mode : SyncMode} {s t : Stage} (old new : MomentState) (r : Result Turn LoopFault) (why : LoopFault) → r ≡ Err why → HasBroken tells mode why old new s t → DoesTelling tells mode r old new s t
 tells_broke {tells} {mode} {s} {t} old new r why e b = subst (λ (z : Result Turn LoopFault). DoesTelling tells mode z old new s t) (sym e) b
 
-module _ {W F S : Type 0} (tells : Bool) (links : W → WireState) (failures waited : W → ℕ) (told : F → Option (List ℕ)) (synced : F → Option ℕ) (drawn : S → Option (List (List ℕ))) (clock : S → ℤ) where
+module _ {W F S : Type 0} (tells : Bool) (links : W → WireState) (failures waited : W → ℕ) (told : F → Option (List ℕ)) (synced : F → Option ℕ) (drawn : S → DrawnState) where
   -- a fault behind ticks
-  pub passes_broke : {more : Bool} {most : ℕ} (a b c d : Host W F S) (why : LoopFault) → IsSame waited clock a b → Goes tells links failures told synced drawn a b → IsSame waited clock b c → PassesOn tells links failures told synced drawn more most b c
+  pub passes_broke : {more : Bool} {most : ℕ} (a b c d : Host W F S) (why : LoopFault) → IsSame waited a b → Goes tells links failures told synced drawn a b → IsSame waited b c → PassesOn tells links failures told synced drawn more most b c
       → HasBroken tells c.log.now.mode why (moment_in drawn c) (moment_in drawn d) (stage_in links failures told synced c) (stage_in links failures told synced d)
       → HasBroken tells a.log.now.mode why (moment_in drawn a) (moment_in drawn d) (stage_in links failures told synced a) (stage_in links failures told synced d)
   passes_broke a b c d why same x on p y =

@@ -17,7 +17,7 @@ use Rattle.mr_connections.proofs.Each.{get-with_each}
 use Rattle.mr_loop.specs.Stage.{Stage, LoopState, connection_at, lacking}
 use Rattle.mr_loop.specs.Carrying.{Carries}
 use Rattle.mr_loop.specs.Causes.{Act, Calls, Dropped, Touches, at_dial, at_step, at_tick}
-use Rattle.mr_loop.specs.Rows.{Event, fault_of, Happens, Run, acts, appends, breaks, closes, fails, finds_none, hears_end, idles, is_deaf, is_refused, joins, loses, misses, misses_dial, misses_tick, settles, spills, stops, takes, tears, turns_away, waits, writes}
+use Rattle.mr_loop.specs.Rows.{Event, fault_of, Happens, Run, acts, appends, breaks, closes, fails, finds_none, hears_end, idles, is_deaf, is_refused, joins, loses, misses, misses_dial, misses_tick, settles, spills, stops, takes, tears, turns_away, waits, wakes, writes}
 use Rattle.mr_loop.specs.Sent.{drops, moved_by, moved_in, moved_of, moved_on, told_by, told_in, StaysIn, HaveSockets, HaveSocketsFirst, HaveSocketsAlways, SendsNothingElse, WireHasWhatIsSent}
 use Rattle.mr_loop.proofs.Carried.{carried_by, carried_wire}
 use Rattle.mr_loop.proofs.Halting.{no_fault}
@@ -134,6 +134,7 @@ called_sockets (at_dial socket link) s m outs c h = began s m socket (begun link
 
 module _ (tells : Bool) (mode : SyncMode) where
   sockets_kept : (e : Event) (s t : Stage) → HaveSockets s → fault_of e ≡ None → Happens tells mode s e t → HaveSockets t
+  sockets_kept (wakes now) s t held goes_on h = by_stage held (ap (λ (z : Stage). z.own) h.is) (ap (λ (z : Stage). z.wire) h.is)
   sockets_kept waits s t held goes_on h = by_stage held (ap (λ (z : Stage). z.own) h.is) (ap (λ (z : Stage). z.wire) h.is)
   sockets_kept (joins j l) s t held goes_on h = began s t j (begun l) new_link held h.wire h.connections
   sockets_kept turns_away s t held goes_on h = socketed s t held (by_own h.own) (same_open h.wire.links)
@@ -228,6 +229,7 @@ called_moved (at_dial socket link) s m outs k c held here h = moved_before s m.w
 
 module _ (mode : SyncMode) where
   moved_kept : (e : Event) (s t : Stage) (k : LinkId) (c : ConnectionState) → HaveSockets s → connection_at s.own k ≡ Some c → fault_of e ≡ None → drops k e ≡ false → Happens true mode s e t → moved_on t.wire k ≡ moved_on s.wire k ++ moved_by k e
+  moved_kept (wakes now) s t k c held here goes_on stays h = unmoved (wakes now) k refl (ap (λ (z : Stage). z.wire) h.is)
   moved_kept waits s t k c held here goes_on stays h = unmoved waits k refl (ap (λ (z : Stage). z.wire) h.is)
   moved_kept (joins j l) s t k c held here goes_on stays h = quiet s.wire t.wire (joins j l) k refl (moved_before s t.wire j k c new_link held here h.wire)
   moved_kept turns_away s t k c held here goes_on stays h = quiet s.wire t.wire turns_away k refl (ap (λ z. moved_of (get z k)) h.wire.links)
@@ -277,6 +279,7 @@ called_sent (at_dial socket link) s m outs h = ap (λ (z : WireState). z.sent) h
 module _ (mode : SyncMode) where
   -- by an event
   told_of : (e : Event) (s t : Stage) → HaveSockets s → fault_of e ≡ None → Happens true mode s e t → t.wire.sent ≡ told_by e s.wire.sent
+  told_of (wakes now) s t held goes_on h = ap (λ (z : Stage). z.wire.sent) h.is
   told_of waits s t held goes_on h = ap (λ (z : Stage). z.wire.sent) h.is
   told_of (joins j l) s t held goes_on h = ap (λ (z : WireState). z.sent) h.wire.links
   told_of turns_away s t held goes_on h = h.wire.sent

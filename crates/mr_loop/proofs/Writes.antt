@@ -1,5 +1,5 @@
 -- What is filed and written: the rows of these events, and how the calls that make them go on from one another.
-use Rattle.std.proofs.Common.{◌≡◌, ◌≢◌, ◌<◌, ◌≤◌, ◌+◌, ◌-◌, ◌⊎◌, inl, inr, ℕ, ℤ, zero, suc, List, [], Bool, true, cond, length, take, drop, Option, None, Some, MutBor, if◌then◌else◌, arith, refl, sym, ap, subst, ◌∙◌}
+use Rattle.std.proofs.Common.{◌≡◌, ◌≢◌, ◌<◌, ◌≤◌, ◌+◌, ◌-◌, ◌⊎◌, inl, inr, ℕ, zero, suc, List, [], Bool, true, cond, length, take, drop, Option, None, Some, MutBor, if◌then◌else◌, arith, refl, sym, ap, subst, ◌∙◌}
 use Rattle.std.specs.Option.{option_map}
 use Rattle.std.proofs.lemmas.List.{length-drop}
 use Rattle.std.specs.FinMap.{get}
@@ -7,6 +7,7 @@ use Rattle.mr_links.specs.declared.link_id.LinkId.{LinkId}
 use Rattle.mr_file.specs.LogFile.{Rose}
 use Rattle.mr_file.specs.declared.sync_mode.SyncMode.{SyncMode}
 use Rattle.mr_rows.specs.State.{NodeState}
+use Rattle.mr_source.specs.Drawn.{DrawnState}
 use Rattle.mr_wire.specs.Wire.{LinkState, ChangesLink, WireState, behind_write, count_of, moves_none, sent_by}
 use Rattle.mr_wire.specs.declared.wire.Moved.{Moved}
 use Rattle.mr_wire.specs.declared.wire.Moved.TheVariants as moved
@@ -160,11 +161,11 @@ at_now x m = record m { now = x }
 
 -- ---- writing in a loop
 
-module _ {W F S : Type 0} (tells : Bool) (links : W → WireState) (failures waited : W → ℕ) (told : F → Option (List ℕ)) (synced : F → Option ℕ) (drawn : S → Option (List (List ℕ))) (clock : S → ℤ) where
+module _ {W F S : Type 0} (tells : Bool) (links : W → WireState) (failures waited : W → ℕ) (told : F → Option (List ℕ)) (synced : F → Option ℕ) (drawn : S → DrawnState) where
   -- some connections were written to
   pub record HasWritten (a b : Host W F S) : Type 0 where
     pub went : Goes tells links failures told synced drawn a b
-    pub same : IsSame waited clock a b
+    pub same : IsSame waited a b
     pub batch : b.own.now.batch ≡ []
     pub moment : moment_in drawn b ≡ moment_in drawn a
     pub core : b.node.now.core ≡ a.node.now.core
@@ -173,7 +174,7 @@ module _ {W F S : Type 0} (tells : Bool) (links : W → WireState) (failures wai
   -- .. or one was, which is still there as it was
   pub record WritesOn (socket link : LinkId) (a b : Host W F S) : Type 0 where
     pub went : Goes tells links failures told synced drawn a b
-    pub same : IsSame waited clock a b
+    pub same : IsSame waited a b
     pub batch : b.own.now.batch ≡ []
     pub moment : moment_in drawn b ≡ moment_in drawn a
     pub node : b.node.now ≡ a.node.now
@@ -199,7 +200,7 @@ module _ {W F S : Type 0} (tells : Bool) (links : W → WireState) (failures wai
   -- .. or closed
   pub record HasClosed (a b : Host W F S) : Type 0 where
     pub went : Goes tells links failures told synced drawn a b
-    pub same : IsSame waited clock a b
+    pub same : IsSame waited a b
     pub batch : b.own.now.batch ≡ a.own.now.batch
     pub moment : moment_in drawn b ≡ moment_in drawn a
     pub node : b.node.now ≡ a.node.now
@@ -208,9 +209,9 @@ module _ {W F S : Type 0} (tells : Bool) (links : W → WireState) (failures wai
   closed_first a = record { went = still_here (moment_in drawn a) _; same = same_here a; batch = refl; moment = refl; node = refl }
 
   pub closed_on : (a b c : Host W F S) (socket : LinkId) → HasClosed a b → connection_at b.own.now socket ≡ Some (with_waiting None [])
-      → Dropped socket None (stage_in links failures told synced b) (stage_in links failures told synced c) → moment_in drawn c ≡ moment_in drawn b → IsSame waited clock b c → HasClosed a c
+      → Dropped socket None (stage_in links failures told synced b) (stage_in links failures told synced c) → moment_in drawn c ≡ moment_in drawn b → IsSame waited b c → HasClosed a c
   closed_on a b c socket x here dropped moment same = record {
-    went = still_then x.same.mode x.went (still_one (closes socket) (moment_in drawn b) (moment_in drawn c) refl refl refl refl refl refl refl (λ now ids. refl) (record { has = record { is = here }; dropped = dropped }) moment);
+    went = still_then x.same.mode x.went (still_one (closes socket) (moment_in drawn b) (moment_in drawn c) refl refl refl refl refl refl refl refl (λ ids. refl) (record { has = record { is = here }; dropped = dropped }) moment);
     same = same_on a b c x.same same;
     batch = dropped.batch ∙ x.batch;
     moment = moment ∙ x.moment;
@@ -235,13 +236,12 @@ module _ {W F S : Type 0} (tells : Bool) (links : W → WireState) (failures wai
 abbrev deafened : Turn → Turn
 deafened turn = record turn { deaf = counted (turn.deaf + 1) }
 
-pub deaf_still : {tells : Bool} {mode : SyncMode} {s t : Stage} (socket link : LinkId) (old mid new : MomentState) → mid ≡ old → new.turn ≡ deafened mid.turn → new.time ≡ mid.time → new.fresh ≡ mid.fresh → new.drawn ≡ mid.drawn → IsDeaf tells socket link s t
+pub deaf_still : {tells : Bool} {mode : SyncMode} {s t : Stage} (socket link : LinkId) (old mid new : MomentState) → mid ≡ old → new.turn ≡ deafened mid.turn → new.fresh ≡ mid.fresh → new.drawn ≡ mid.drawn → IsDeaf tells socket link s t
     → CountsStill tells mode old new s t
-deaf_still socket link old mid new same is time fresh drawn h =
+deaf_still socket link old mid new same is fresh drawn h =
     let all : new.turn ≡ deafened old.turn = is ∙ ap (λ (m : MomentState). deafened m.turn) same in
     still_event (is_deaf socket link) old new refl refl h
-    (supplies_same (is_deaf socket link) old new (λ now ids. refl) (fresh ∙ ap (λ (m : MomentState). m.fresh) same) (drawn ∙ ap (λ (m : MomentState). m.drawn) same))
-    (time ∙ ap (λ (m : MomentState). m.time) same)
+    (supplies_same (is_deaf socket link) old new refl (λ ids. refl) (fresh ∙ ap (λ (m : MomentState). m.fresh) same) (drawn ∙ ap (λ (m : MomentState). m.drawn) same))
     (ap (λ (x : Turn). x.steps) all) (ap (λ (x : Turn). x.done) all) (ap (λ (x : Turn). x.used) all) (ap (λ (x : Turn). x.deaf) all) (ap (λ (x : Turn). x.followed) all)
 
 -- the node and the connection are as they were before its bytes were written

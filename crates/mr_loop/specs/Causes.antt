@@ -91,12 +91,14 @@ pub data TurnsOff (a b : NodeState) : Type 0 where
 -- where a node answers that it is stopped
 pub data Stop : Type 0 where
   stops_at_step : (link : LinkId) (given : Given) (fresh : List ℕ) → Stop
+  stops_at_tick : (given : Given) → Stop
   stops_at_open : Stop
   was_down : Stop
 
--- .. and why: at a step, or since it opened as many links as it may, or was down
+-- .. and why: at a step, or since it opened as many links as it may, or was down, as it is where time passes
 abbrev pub Stopping : Stop → NodeState → NodeState → Type 0
 Stopping (stops_at_step link given fresh) a b = Stepped a link given fresh b (Err refusal.Stopped)
+Stopping (stops_at_tick given) a b = (a.core.up ≡ false) × (b ≡ a)
 Stopping stops_at_open a b = OpensNoMore a b
 Stopping was_down a b = (a.core.up ≡ false) × (b ≡ a)
 

@@ -5,7 +5,7 @@ use Rattle.mr_file.specs.declared.sync_mode.SyncMode.{SyncMode}
 use Rattle.mr_rows.specs.State.{NodeState}
 use Rattle.mr_rows.specs.TimeRows.{room_in}
 use Rattle.mr_data.specs.Due.{deletions}
-use Rattle.mr_source.specs.Ids.{with_ids}
+use Rattle.mr_source.specs.Drawn.{DrawnState, with_id}
 use Rattle.mr_loop.specs.declared.told.Turn.{Turn}
 use Rattle.mr_loop.specs.declared.followed.Followed.{Followed}
 use Rattle.mr_loop.specs.declared.followed.News.{News}
@@ -133,19 +133,17 @@ followed_by (e ∷ es) f = followed_by es (heard_if (news_by e) f)
 abbrev pub nothing_counted : Turn
 nothing_counted = record { steps = 0; done = 0; used = 0; deaf = 0; halted = false; followed = no_news }
 
--- A turn on its way: its moment, the id that the next step is given, the ids that the source gave, of one that tells them, and what was counted.
+-- A turn on its way: the id that the next step is given, what was drawn from the source, and what was counted.
 pub record MomentState : Type 0 where
-  pub time : ℤ
   pub fresh : List ℕ
-  pub drawn : Option (List (List ℕ))
+  pub drawn : DrawnState
   pub turn : Turn
 
 module _ (tells : Bool) (mode : SyncMode) where
   -- Some events behind each of which the turn goes on, with what its source gives, and the counts of a turn went on by what they come to.
   pub record CountsOn (old new : MomentState) (s t : Stage) : Type 0 where
     pub went : Went tells mode s t
-    pub given : Supplies old.time (old.fresh ∷ []) old.drawn went.events (new.fresh ∷ []) new.drawn
-    pub time_stays : new.time ≡ old.time
+    pub given : Supplies (old.fresh ∷ []) old.drawn went.events (new.fresh ∷ []) new.drawn
     pub steps_are : new.turn.steps ≡ raised (sum_in calls_by went.events) old.turn.steps
     pub done_are : new.turn.done ≡ raised (sum_in uses_by went.events) old.turn.done
     pub used_are : new.turn.used ≡ raised (sum_in ids_by went.events) old.turn.used
@@ -163,12 +161,12 @@ module _ (tells : Bool) (mode : SyncMode) where
     pub done : new.turn.done ≡ old.turn.done
     pub ticked : sum_in ticks_by counts.went.events ≡ count
 
-  -- What a turn at this moment tells is what its events come to, and whether a client asked that the program end. Of the ids that its source gave before, these
-  -- weren't taken; and it had given those, and has given these, where it tells them.
-  pub record TellsOf (now : ℤ) (unused : List (List ℕ)) (drawn after : Option (List (List ℕ))) (turn : Turn) (s t : Stage) : Type 0 where
+  -- What a turn tells is what its events come to, and whether a client asked that the program end. Of the ids that its source gave before, these weren't taken;
+  -- and that had been drawn from it before, and this since.
+  pub record TellsOf (unused : List (List ℕ)) (drawn after : DrawnState) (turn : Turn) (s t : Stage) : Type 0 where
     pub went : Went tells mode s t
     pub left : List (List ℕ)
-    pub given : Supplies now unused drawn went.events left after
+    pub given : Supplies unused drawn went.events left after
     pub steps_are : turn.steps ≡ counted (sum_in calls_by went.events)
     pub done_are : turn.done ≡ counted (sum_in uses_by went.events)
     pub used_are : turn.used ≡ counted (sum_in ids_by went.events)
@@ -177,8 +175,8 @@ module _ (tells : Bool) (mode : SyncMode) where
     -- time passes
     pub ticked : 0 < sum_in ticks_by went.events
     pub few : sum_in ticks_by went.events ≤ most_ticks turn.done
-    -- **Ticks keep up**: where another would still delete, so many were made, and the next turn goes on without waiting
-    pub keeps_up : IsTickDue now t.node → (sum_in ticks_by went.events ≡ most_ticks turn.done) × (t.own.hurries ≡ true)
+    -- **Ticks keep up**: where another would still delete at the last moment, so many were made, and the next turn goes on without waiting
+    pub keeps_up : IsTickDue after.clock t.node → (sum_in ticks_by went.events ≡ most_ticks turn.done) × (t.own.hurries ≡ true)
     pub halted : turn.halted ≡ t.own.halted
 
 -- **The loop knows of each SHUTDOWN**: that a client said so is what it knew before, or of some step.
@@ -193,4 +191,4 @@ taken (Some id) turn = record turn { used = counted (turn.used + 1) }
 -- .. behind which the source gave another, or none
 abbrev pub Renewed : Option (List ℕ) → MomentState → MomentState → Type 0
 Renewed None old new = new ≡ old
-Renewed (Some id) old new = new ≡ record { time = old.time; fresh = new.fresh; drawn = with_ids (new.fresh ∷ []) old.drawn; turn = taken (Some id) old.turn }
+Renewed (Some id) old new = new ≡ record { fresh = new.fresh; drawn = with_id new.fresh old.drawn; turn = taken (Some id) old.turn }

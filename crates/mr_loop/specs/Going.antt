@@ -1,5 +1,6 @@
 -- What the parts of a turn do to a host.
 use Rattle.std.specs.Prelude.{◌≡◌, ◌<◌, ◌≤◌, ℕ, List, Bool, true, Option, Result, Ok, Err}
+use Rattle.mr_source.specs.Drawn.{DrawnState}
 use Rattle.mr_wire.specs.Wire.{WireState}
 use Rattle.mr_loop.specs.declared.fault.LoopFault.{LoopFault}
 use Rattle.mr_loop.specs.declared.host.Host.{Host}
@@ -8,7 +9,7 @@ use Rattle.mr_loop.specs.Hosts.{moment_in, stage_in}
 use Rattle.mr_loop.specs.Counting.{CountsStill, IsTickDue, Passes}
 use Rattle.mr_loop.specs.Outcomes.{HasBroken, Does, DoesTelling}
 
-module _ {W F S : Type 0} (tells : Bool) (links : W → WireState) (failures : W → ℕ) (told : F → Option (List ℕ)) (synced : F → Option ℕ) (drawn : S → Option (List (List ℕ))) where
+module _ {W F S : Type 0} (tells : Bool) (links : W → WireState) (failures : W → ℕ) (told : F → Option (List ℕ)) (synced : F → Option ℕ) (drawn : S → DrawnState) where
   -- some events, which are counted, and no tick
   abbrev pub Goes : Host W F S → Host W F S → Type 0
   Goes a b = CountsStill tells a.log.now.mode (moment_in drawn a) (moment_in drawn b) (stage_in links failures told synced a) (stage_in links failures told synced b)
@@ -31,7 +32,7 @@ module _ {W F S : Type 0} (tells : Bool) (links : W → WireState) (failures : W
 
   -- One tick was made, and where another would still delete, it is answered so.
   abbrev pub TicksAs : Result Bool LoopFault → Host W F S → Host W F S → Type 0
-  TicksAs (Ok more) a b = Passes tells a.log.now.mode 1 (moment_in drawn a) (moment_in drawn b) (stage_in links failures told synced a) (stage_in links failures told synced b) × (IsTickDue a.moment.time b.node.now → more ≡ true)
+  TicksAs (Ok more) a b = Passes tells a.log.now.mode 1 (moment_in drawn a) (moment_in drawn b) (stage_in links failures told synced a) (stage_in links failures told synced b) × (IsTickDue (drawn b.source.now).clock b.node.now → more ≡ true)
   TicksAs (Err why) a b = HasBroken tells a.log.now.mode why (moment_in drawn a) (moment_in drawn b) (stage_in links failures told synced a) (stage_in links failures told synced b)
 
   -- Time passed: some ticks were made, so many at most, and so many where another would still delete: then it is answered so.
@@ -40,7 +41,7 @@ module _ {W F S : Type 0} (tells : Bool) (links : W → WireState) (failures : W
     pub went : Passes tells a.log.now.mode count (moment_in drawn a) (moment_in drawn b) (stage_in links failures told synced a) (stage_in links failures told synced b)
     pub some : 0 < count
     pub few : count ≤ most
-    pub keeps_up : IsTickDue a.moment.time b.node.now → (count ≡ most) × (more ≡ true)
+    pub keeps_up : IsTickDue (drawn b.source.now).clock b.node.now → (count ≡ most) × (more ≡ true)
 
   abbrev pub PassesAs : Result Bool LoopFault → ℕ → Host W F S → Host W F S → Type 0
   PassesAs (Ok more) most a b = PassesOn more most a b

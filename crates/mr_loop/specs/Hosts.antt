@@ -1,5 +1,6 @@
 -- What a host is to a turn: the stage that it lends, and what stays of it.
-use Rattle.std.specs.Prelude.{◌≡◌, ℕ, ℤ, List, Option}
+use Rattle.std.specs.Prelude.{◌≡◌, ℕ, List, Option}
+use Rattle.mr_source.specs.Drawn.{DrawnState}
 use Rattle.mr_wire.specs.Wire.{WireState}
 use Rattle.mr_loop.specs.declared.host.Host.{Host}
 use Rattle.mr_loop.specs.Stage.{Stage, stage}
@@ -10,19 +11,16 @@ module _ {W F S : Type 0} where
   abbrev pub stage_in : (W → WireState) → (W → ℕ) → (F → Option (List ℕ)) → (F → Option ℕ) → Host W F S → Stage
   stage_in links failures told synced h = stage h.node.now h.own.now (links h.wire.now) (failures h.wire.now) (told h.log.now.file) (synced h.log.now.file)
 
-  -- its moment, with the ids that the source tells
-  abbrev pub moment_in : (S → Option (List (List ℕ))) → Host W F S → MomentState
-  moment_in drawn h = record { time = h.moment.time; fresh = h.moment.fresh; drawn = drawn h.source.now; turn = h.moment.turn }
+  -- its moment, with what was drawn from the source
+  abbrev pub moment_in : (S → DrawnState) → Host W F S → MomentState
+  moment_in drawn h = record { fresh = h.moment.fresh; drawn = drawn h.source.now; turn = h.moment.turn }
 
-  -- The values that it borrowed are those that it borrows, in whatever state. The moment of the turn and how the file is synced stay; the wire isn't waited on
-  -- again, and the source isn't asked for the time again.
-  pub record IsSame (waited : W → ℕ) (clock : S → ℤ) (a b : Host W F S) : Type 0 where
+  -- The values that it borrowed are those that it borrows, in whatever state. How the file is synced stays, and the wire isn't waited on again.
+  pub record IsSame (waited : W → ℕ) (a b : Host W F S) : Type 0 where
     pub node : b.node ≡ record a.node { now = b.node.now }
     pub own : b.own ≡ record a.own { now = b.own.now }
     pub wire : b.wire ≡ record a.wire { now = b.wire.now }
     pub log : b.log ≡ record a.log { now = b.log.now }
     pub source : b.source ≡ record a.source { now = b.source.now }
-    pub time : b.moment.time ≡ a.moment.time
     pub mode : b.log.now.mode ≡ a.log.now.mode
     pub wait_stays : waited b.wire.now ≡ waited a.wire.now
-    pub clock_stays : clock b.source.now ≡ clock a.source.now

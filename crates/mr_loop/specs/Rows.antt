@@ -1,5 +1,5 @@
 -- What a turn does: one event after another, each by its row. A row says what becomes of everything that a turn acts on.
-use Rattle.std.specs.Prelude.{◌≡◌, ◌≢◌, ◌≤◌, ℕ, List, [], ◌∷◌, Bool, true, false, Option, Some, None, Ok, Err, length, take}
+use Rattle.std.specs.Prelude.{◌≡◌, ◌≢◌, ◌≤◌, ℕ, ℤ, List, [], ◌∷◌, Bool, true, false, Option, Some, None, Ok, Err, length, take}
 use Rattle.std.specs.FinMap as map
 use Rattle.mr_links.specs.declared.link_id.LinkId.{LinkId}
 use Rattle.mr_data.specs.declared.given.Given.{Given}
@@ -24,7 +24,9 @@ use Rattle.mr_loop.specs.Causes.{Act, Calls, Dropped, Fed, Has, HasInput, HasRoo
 
 -- what happens in a turn
 pub data Event : Type 0 where
-  -- the wire was waited on, or asked for a link and nobody had opened one
+  -- the wire was waited on, and then the source was asked for the time
+  wakes : (now : ℤ) → Event
+  -- the wire was asked for a link, and nobody had opened one
   waits : Event
   -- the wire accepted a link, the node opened one, and they are a connection
   joins : (socket link : LinkId) → Event
@@ -281,6 +283,7 @@ pub record IsToldToStop (s t : Stage) : Type 0 where
 module _ (tells : Bool) (mode : SyncMode) where
   -- what an event makes of all that a turn acts on
   abbrev pub Happens : Stage → Event → Stage → Type 0
+  Happens s (wakes now) t = HasWaited s t
   Happens s waits t = HasWaited s t
   Happens s (joins socket link) t = Joins socket link s t
   Happens s turns_away t = TurnsAway s t

@@ -1,11 +1,12 @@
 -- What the events of a turn come to: on one connection, and for the file.
-use Rattle.std.specs.Prelude.{◌≡◌, ◌⊎◌, ℕ, ℤ, List, [], ◌∷◌, ◌++◌, Bool, true, false, Option, Some, None, if◌then◌else◌, ◌||◌}
+use Rattle.std.specs.Prelude.{◌≡◌, ◌⊎◌, ℕ, List, [], ◌∷◌, ◌++◌, Bool, true, false, Option, Some, None, if◌then◌else◌, ◌||◌}
 use Rattle.std.specs.Ordering.{eq_by_cmp}
 use Rattle.std.specs.FinMap as map
 use Rattle.mr_links.specs.LinkId.{id_cmp}
 use Rattle.mr_links.specs.declared.link_id.LinkId.{LinkId}
 use Rattle.mr_outs.specs.Outs.{OutState, grow, append, replace, send, close, use_id, follow, halt, outs_of}
 use Rattle.mr_wire.specs.Wire.{LinkState, SentState, WireState, sent_on}
+use Rattle.mr_source.specs.Drawn.{DrawnState}
 use Rattle.mr_file.specs.LogFile.{IsSynced}
 use Rattle.mr_file.specs.declared.sync_mode.SyncMode.{SyncMode}
 use Rattle.mr_file.specs.declared.sync_mode.SyncMode.TheVariants as sync
@@ -195,4 +196,4 @@ pub record IsSilent (a b : WireState) : Type 0 where
 
 -- **Behind a fault nothing is sent.** Each link of the wire is as it was before the last event.
 abbrev pub IsSilentBehindFaults : Type 0
-IsSilentBehindFaults = (tells : Bool) (mode : SyncMode) (now : ℤ) (unused : List (List ℕ)) (drawn after : Option (List (List ℕ))) (why : LoopFault) (s t : Stage) (b : BreaksDown tells mode now unused drawn after why s t) → IsSilent b.broke.before.wire t.wire
+IsSilentBehindFaults = (tells : Bool) (mode : SyncMode) (unused : List (List ℕ)) (drawn after : DrawnState) (why : LoopFault) (s t : Stage) (b : BreaksDown tells mode unused drawn after why s t) → IsSilent b.broke.before.wire t.wire

@@ -20,7 +20,7 @@ impl<W: Wire, F: LogFile, S: Source> Host<'_, '_, W, F, S> {
     /// Accepts the links that peers opened. It answers whether there may be more.
     pub(crate) fn accept_all(&mut self) -> Result<bool, LoopFault>
         ensures went { GoesAs W.tells W.links W.failures F.told F.synced S.drawn result self.old self.new }
-        ensures same { IsSame W.waited S.clock self.old self.new }
+        ensures same { IsSame W.waited self.old self.new }
         ensures device { IsErrOf result LoopFault.File → self.new.log.now.broken ≡ true }
         ensures quiet { AllWait self.old.node.now → OnOk result (AllWait self.new.node.now) }
     {
@@ -35,7 +35,7 @@ impl<W: Wire, F: LogFile, S: Source> Host<'_, '_, W, F, S> {
     /// Accepts the next link, if there is one. It answers whether there may be more.
     fn accept_next(&mut self) -> Result<bool, LoopFault>
         ensures went { GoesAs W.tells W.links W.failures F.told F.synced S.drawn result self.old self.new }
-        ensures same { IsSame W.waited S.clock self.old self.new }
+        ensures same { IsSame W.waited self.old self.new }
         ensures device { IsErrOf result LoopFault.File → self.new.log.now.broken ≡ true }
         ensures quiet { AllWait self.old.node.now → OnOk result (AllWait self.new.node.now) }
     {
@@ -49,7 +49,7 @@ impl<W: Wire, F: LogFile, S: Source> Host<'_, '_, W, F, S> {
     /// Opens a link at the node for one that the wire accepted, or closes that.
     fn join(&mut self, socket: LinkId) -> Result<bool, LoopFault>
         ensures went { (before : WireState) (failed : ℕ) → Accepts before socket (W.links self.old.wire.now) → failed ≤ W.failures self.old.wire.now → GoesFrom W.tells W.links W.failures F.told F.synced S.drawn before failed result self.old self.new }
-        ensures same { IsSame W.waited S.clock self.old self.new }
+        ensures same { IsSame W.waited self.old self.new }
         ensures device { IsErrOf result LoopFault.File → self.new.log.now.broken ≡ true }
         ensures quiet { AllWait self.old.node.now → OnOk result (AllWait self.new.node.now) }
     {

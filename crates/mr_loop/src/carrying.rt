@@ -24,7 +24,7 @@ impl<W: Wire, F: LogFile, S: Source> Host<'_, '_, W, F, S> {
         ensures carried { CarriesAs result (outs_of outs) (stage_in W.links W.failures F.told F.synced self.old) (stage_in W.links W.failures F.told F.synced self.new) }
         ensures moment { OnOk result (Renewed outs.used (moment_in S.drawn self.old) (moment_in S.drawn self.new)) }
         ensures kept { OnErr result (moment_in S.drawn self.new ≡ moment_in S.drawn self.old) }
-        ensures same { IsSame W.waited S.clock self.old self.new }
+        ensures same { IsSame W.waited self.old self.new }
         ensures device { IsErrOf result LoopFault.File → self.new.log.now.broken ≡ true }
     {
         let takes_id = outs.used().is_some();
@@ -42,7 +42,7 @@ impl<W: Wire, F: LogFile, S: Source> Host<'_, '_, W, F, S> {
     fn carry_all(&mut self, outs: &mut Outs) -> Result<(), LoopFault>
         ensures carried { CarriesAs result (outs_of outs.old) (stage_in W.links W.failures F.told F.synced self.old) (stage_in W.links W.failures F.told F.synced self.new) }
         ensures moment { moment_in S.drawn self.new ≡ moment_in S.drawn self.old }
-        ensures same { IsSame W.waited S.clock self.old self.new }
+        ensures same { IsSame W.waited self.old self.new }
         ensures device { IsErrOf result LoopFault.File → self.new.log.now.broken ≡ true }
     {
         self.carry_first(outs)?;
@@ -63,7 +63,7 @@ impl<W: Wire, F: LogFile, S: Source> Host<'_, '_, W, F, S> {
         ensures err { OnErr result (CarriesAs result (outs_of outs.old) (stage_in W.links W.failures F.told F.synced self.old) (stage_in W.links W.failures F.told F.synced self.new)) }
         ensures fault { IfErr result (λ e. e ≡ LoopFault.Stopped) }
         ensures moment { moment_in S.drawn self.new ≡ moment_in S.drawn self.old }
-        ensures same { IsSame W.waited S.clock self.old self.new }
+        ensures same { IsSame W.waited self.old self.new }
     {
         let Some(mut texts) = outs.take_first() else {
             return Ok(());
@@ -77,7 +77,7 @@ impl<W: Wire, F: LogFile, S: Source> Host<'_, '_, W, F, S> {
     fn carry_out(&mut self, outs: &Outs) -> Result<(), LoopFault>
         ensures carried { CarriesAs result (outs_of outs.now) (stage_in W.links W.failures F.told F.synced self.old) (stage_in W.links W.failures F.told F.synced self.new) }
         ensures moment { moment_in S.drawn self.new ≡ moment_in S.drawn self.old }
-        ensures same { IsSame W.waited S.clock self.old self.new }
+        ensures same { IsSame W.waited self.old self.new }
         ensures device { IsErrOf result LoopFault.File → self.new.log.now.broken ≡ true }
     {
         for out in outs.iter() {
@@ -90,7 +90,7 @@ impl<W: Wire, F: LogFile, S: Source> Host<'_, '_, W, F, S> {
     fn carry(&mut self, out: Out<'_>) -> Result<(), LoopFault>
         ensures carried { CarriesOneAs result (out_view out.entry) (stage_in W.links W.failures F.told F.synced self.old) (stage_in W.links W.failures F.told F.synced self.new) }
         ensures moment { moment_in S.drawn self.new ≡ moment_in S.drawn self.old }
-        ensures same { IsSame W.waited S.clock self.old self.new }
+        ensures same { IsSame W.waited self.old self.new }
         ensures device { IsErrOf result LoopFault.File → self.new.log.now.broken ≡ true }
     {
         match out {
@@ -121,7 +121,7 @@ impl<W: Wire, F: LogFile, S: Source> Host<'_, '_, W, F, S> {
         ensures wire { self.new.wire.now ≡ self.old.wire.now }
         ensures log { self.new.log.now ≡ self.old.log.now }
         ensures moment { moment_in S.drawn self.new ≡ moment_in S.drawn self.old }
-        ensures same { IsSame W.waited S.clock self.old self.new }
+        ensures same { IsSame W.waited self.old self.new }
     {
         self.node.close(link);
         self.own.part(link);
@@ -131,7 +131,7 @@ impl<W: Wire, F: LogFile, S: Source> Host<'_, '_, W, F, S> {
     fn rewrite(&mut self, whole: &[u8]) -> Result<(), LoopFault>
         ensures carried { CarriesOneAs result (replace whole.now) (stage_in W.links W.failures F.told F.synced self.old) (stage_in W.links W.failures F.told F.synced self.new) }
         ensures moment { moment_in S.drawn self.new ≡ moment_in S.drawn self.old }
-        ensures same { IsSame W.waited S.clock self.old self.new }
+        ensures same { IsSame W.waited self.old self.new }
         ensures device { IsErrOf result LoopFault.File → self.new.log.now.broken ≡ true }
     {
         match self.log.replace(whole) {

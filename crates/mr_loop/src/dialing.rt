@@ -18,14 +18,14 @@ impl<W: Wire, F: LogFile, S: Source> Host<'_, '_, W, F, S> {
     /// Dials the master, where the node waits for one and it isn't too soon again.
     pub(crate) fn dial(&mut self) -> Result<(), LoopFault>
         ensures went { GoesAs W.tells W.links W.failures F.told F.synced S.drawn result self.old self.new }
-        ensures same { IsSame W.waited S.clock self.old self.new }
+        ensures same { IsSame W.waited self.old self.new }
         ensures device { IsErrOf result LoopFault.File → self.new.log.now.broken ≡ true }
         ensures quiet { AllWait self.old.node.now → OnOk result (AllWait self.new.node.now) }
     {
         if !self.node.waits() {
             return Ok(());
         }
-        let now = self.moment.time();
+        let now = self.moment.begun;
         if !self.own.may_dial(now) {
             return Ok(());
         }
@@ -44,7 +44,7 @@ impl<W: Wire, F: LogFile, S: Source> Host<'_, '_, W, F, S> {
         requires replica { self.old.node.now.core.master ≡ false }
         requires alone { self.old.node.now.follow ≡ None }
         ensures went { (before : WireState) (failed : ℕ) (address : AddressState) → self.old.node.now.core.upstream ≡ Some address → Connects before address.host address.port socket (W.links self.old.wire.now) → failed ≤ W.failures self.old.wire.now → GoesFrom W.tells W.links W.failures F.told F.synced S.drawn before failed result self.old self.new }
-        ensures same { IsSame W.waited S.clock self.old self.new }
+        ensures same { IsSame W.waited self.old self.new }
         ensures device { IsErrOf result LoopFault.File → self.new.log.now.broken ≡ true }
         ensures quiet { AllWait self.old.node.now → OnOk result (AllWait self.new.node.now) }
     {

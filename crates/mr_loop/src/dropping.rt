@@ -14,7 +14,7 @@ impl<W: Wire, F: LogFile, S: Source> Host<'_, '_, W, F, S> {
     pub(crate) fn drop_connection(&mut self, socket: LinkId, link: Option<LinkId>)
         ensures dropped { Dropped socket link (stage_in W.links W.failures F.told F.synced self.old) (stage_in W.links W.failures F.told F.synced self.new) }
         ensures moment { moment_in S.drawn self.new ≡ moment_in S.drawn self.old }
-        ensures same { IsSame W.waited S.clock self.old self.new }
+        ensures same { IsSame W.waited self.old self.new }
     {
         if let Some(link) = link {
             self.node.close(link);

@@ -2,7 +2,7 @@
 ghost use Rattle.mr_loop.specs.Counting.{KnowsShutdown};
 ghost use Rattle.mr_loop.specs.Giving.{TakesEachOnce};
 ghost use Rattle.mr_loop.specs.Hearing.{TellsNothingElse, TellsWhatCame};
-ghost use Rattle.mr_loop.specs.Outcomes.{TurnsTakeEachOnce};
+ghost use Rattle.mr_loop.specs.Outcomes.{TurnsGoForward, TurnsTakeEachOnce};
 ghost use Rattle.mr_loop.specs.Sent.{GoesOutInOrder, HaveSocketsAlways, HaveSocketsFirst, IsSentOnceFiled, IsSilentBehindFaults, SendsNothingElse, WireHasWhatIsSent};
 
 /// What was moved on a connection is a beginning of what waited there and of what the node sent on its link, in order; the rest waits.
@@ -49,6 +49,12 @@ pub fn shutdown_is_known()
 pub fn ids_are_taken_once()
     ensures calls { TakesEachOnce }
     ensures turns { TurnsTakeEachOnce }
+{}
+
+/// The moments that a source tells in many turns are those of their beginnings, their steps and their ticks, each told for one of them, in
+/// order, and none goes back.
+pub fn moments_never_go_back()
+    ensures { TurnsGoForward }
 {}
 
 /// A step at the link to the master is counted as what the node's follower made of it, and one at another link isn't counted as such.

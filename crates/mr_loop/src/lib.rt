@@ -23,7 +23,7 @@ mod writing;
 pub use fault::LoopFault;
 pub use followed::Followed;
 pub use laws::{
-    connections_have_sockets, ids_are_taken_once, nothing_else_is_sent,
+    connections_have_sockets, ids_are_taken_once, moments_never_go_back, nothing_else_is_sent,
     nothing_is_sent_behind_a_fault, shutdown_is_known, the_wire_has_what_is_sent,
     what_came_is_counted, what_is_sent_goes_out_in_order, what_is_sent_is_filed,
 };

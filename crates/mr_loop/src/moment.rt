@@ -1,7 +1,6 @@
 // What the steps of a turn are given, and what was counted in it so far.
-ghost use Rattle.std.specs.Prelude.{◌≡◌, ◌∷◌, ◌+◌, []};
-ghost use Rattle.mr_data.specs.Given.{IsMoment};
-ghost use Rattle.mr_source.specs.Ids.{with_ids};
+ghost use Rattle.std.specs.Prelude.{◌≡◌, ◌≤ℤ◌, ◌+◌};
+ghost use Rattle.mr_source.specs.Drawn.{with_id, with_moment};
 ghost use Rattle.mr_loop.specs.Counting.{counted, heard_if, nothing_counted};
 
 use crate::followed::News;
@@ -10,26 +9,26 @@ use mr_data::Given;
 use mr_repl::ReplId;
 use mr_source::Source;
 
-/// The time of a turn, an id that was never drawn before, and what was counted in the turn so far.
+/// An id that was never drawn before, and what was counted in the turn so far.
 #[derive(Drop)]
 pub(crate) struct Moment {
-    time: i64,
+    /// When the turn began, in milliseconds.
+    pub(crate) begun: i64,
     fresh: ReplId,
     turn: Turn,
-    ghost in_range: { IsMoment time },
 }
 
 impl Moment {
     /// A turn begins: nothing is counted yet.
     pub(crate) fn begun<S: Source>(source: &mut S) -> Moment
         ensures turn { result.turn ≡ nothing_counted }
-        ensures time { result.time ≡ S.clock source.new }
-        ensures drawn { S.drawn source.new ≡ with_ids (result.fresh ∷ []) (S.drawn source.old) }
+        ensures forward { (S.drawn source.old).clock ≤ℤ result.begun }
+        ensures drawn { S.drawn source.new ≡ with_moment result.begun (with_id result.fresh (S.drawn source.old)) }
     {
         let fresh = source.id();
-        let time = source.now();
+        let begun = source.now();
         let turn = Turn::begun();
-        Moment { time, fresh, turn }
+        Moment { begun, fresh, turn }
     }
 
     /// The id that the next step may take.
@@ -39,13 +38,6 @@ impl Moment {
         self.fresh
     }
 
-    /// The moment, in milliseconds.
-    pub(crate) fn time(&self) -> i64
-        ensures { result ≡ self.now.time }
-    {
-        self.time
-    }
-
     /// What was counted.
     pub(crate) fn turn(&self) -> Turn
         ensures { result ≡ self.now.turn }
@@ -53,20 +45,9 @@ impl Moment {
         self.turn
     }
 
-    /// What a step is given at this time, with a random word.
-    pub(crate) fn given(&self, word: u64) -> Given
-        ensures { result.now ≡ self.now.time }
-    {
-        match Given::new(self.time, word) {
-            Some(given) => given,
-            None => unreachable!(),
-        }
-    }
-
     /// The fresh id was taken: that is counted, and there is another.
     pub(crate) fn renew(&mut self, fresh: ReplId)
         ensures turn { self.new.turn ≡ record self.old.turn { used = counted (self.old.turn.used + 1) } }
-        ensures time { self.new.time ≡ self.old.time }
         ensures fresh { self.new.fresh ≡ fresh }
     {
         self.turn.count_id();
@@ -76,7 +57,6 @@ impl Moment {
     /// Counts a step that the node is asked for.
     pub(crate) fn count_step(&mut self)
         ensures turn { self.new.turn ≡ record self.old.turn { steps = counted (self.old.turn.steps + 1) } }
-        ensures time { self.new.time ≡ self.old.time }
         ensures fresh { self.new.fresh ≡ self.old.fresh }
     {
         self.turn.count_step();
@@ -85,7 +65,6 @@ impl Moment {
     /// Counts that such a step used something.
     pub(crate) fn count_use(&mut self)
         ensures turn { self.new.turn ≡ record self.old.turn { done = counted (self.old.turn.done + 1) } }
-        ensures time { self.new.time ≡ self.old.time }
         ensures fresh { self.new.fresh ≡ self.old.fresh }
     {
         self.turn.count_use();
@@ -94,7 +73,6 @@ impl Moment {
     /// Counts what a step came to between a replica and its master, if there is something.
     pub(crate) fn hear(&mut self, news: Option<News>)
         ensures turn { self.new.turn ≡ record self.old.turn { followed = heard_if news self.old.turn.followed } }
-        ensures time { self.new.time ≡ self.old.time }
         ensures fresh { self.new.fresh ≡ self.old.fresh }
     {
         self.turn.hear(news);
@@ -103,9 +81,20 @@ impl Moment {
     /// Counts a client that is given up since it left too much unread.
     pub(crate) fn count_deaf(&mut self)
         ensures turn { self.new.turn ≡ record self.old.turn { deaf = counted (self.old.turn.deaf + 1) } }
-        ensures time { self.new.time ≡ self.old.time }
         ensures fresh { self.new.fresh ≡ self.old.fresh }
     {
         self.turn.count_deaf();
+    }
+}
+
+/// What a step or a tick is given: the time at which it is made, and a random word.
+pub(crate) fn given<S: Source>(source: &mut S) -> Given
+    ensures forward { (S.drawn source.old).clock ≤ℤ result.now }
+    ensures drawn { S.drawn source.new ≡ with_moment result.now (S.drawn source.old) }
+{
+    let now = source.now();
+    match Given::new(now, source.word()) {
+        Some(given) => given,
+        None => unreachable!(),
     }
 }

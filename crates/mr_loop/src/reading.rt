@@ -16,7 +16,7 @@ impl<W: Wire, F: LogFile, S: Source> Host<'_, '_, W, F, S> {
     /// Serves those in this turn whose sockets the wire names, in its order.
     pub(crate) fn gather(&mut self)
         ensures stays { StaysAs W.tells W.links W.failures F.told F.synced S.drawn self.old self.new }
-        ensures same { IsSame W.waited S.clock self.old self.new }
+        ensures same { IsSame W.waited self.old self.new }
     {
         self.own.serve_nobody();
         for _ in 0..self.own.len() {
@@ -37,7 +37,7 @@ impl<W: Wire, F: LogFile, S: Source> Host<'_, '_, W, F, S> {
         most: usize,
     ) -> Option<LinkId>
         ensures went { Goes W.tells W.links W.failures F.told F.synced S.drawn self.old self.new }
-        ensures same { IsSame W.waited S.clock self.old self.new }
+        ensures same { IsSame W.waited self.old self.new }
         ensures quiet { AllWait self.old.node.now → WaitsBut result self.new.node.now }
         ensures linked { IfSome result (λ link. HasLink self.new.own.now.connections socket link) }
     {
@@ -66,7 +66,7 @@ impl<W: Wire, F: LogFile, S: Source> Host<'_, '_, W, F, S> {
         requires read { IsRead self.old.own.now socket link }
         requires room { HasRoom self.old.node.now link (length buffer.old) }
         ensures went { Goes W.tells W.links W.failures F.told F.synced S.drawn self.old self.new }
-        ensures same { IsSame W.waited S.clock self.old self.new }
+        ensures same { IsSame W.waited self.old self.new }
         ensures quiet { AllWait self.old.node.now → WaitsBut result self.new.node.now }
         ensures linked { IfSome result (λ l. HasLink self.new.own.now.connections socket l) }
     {

@@ -12,6 +12,7 @@ ghost use Rattle.mr_loop.specs.Quiet.{AllWait, OthersWait, WaitsUnless, left_at}
 use crate::fault::LoopFault;
 use crate::followed::{Place, news_of, place_of};
 use crate::host::Host;
+use crate::moment::given;
 use mr_file::LogFile;
 use mr_links::LinkId;
 use mr_node::{NodeFault, Role, Step};
@@ -26,7 +27,7 @@ impl<W: Wire, F: LogFile, S: Source> Host<'_, '_, W, F, S> {
     pub(crate) fn step_all(&mut self, socket: LinkId, link: LinkId) -> Result<(), LoopFault>
         requires { IsLinked self.old.node.now self.old.own.now socket link }
         ensures went { GoesAs W.tells W.links W.failures F.told F.synced S.drawn result self.old self.new }
-        ensures same { IsSame W.waited S.clock self.old self.new }
+        ensures same { IsSame W.waited self.old self.new }
         ensures device { IsErrOf result LoopFault.File → self.new.log.now.broken ≡ true }
         ensures quiet { OthersWait self.old.node.now link → OnOk result (AllWait self.new.node.now) }
     {
@@ -39,7 +40,7 @@ impl<W: Wire, F: LogFile, S: Source> Host<'_, '_, W, F, S> {
     fn step_next(&mut self, socket: LinkId, link: LinkId) -> Result<bool, LoopFault>
         requires { IsLinked self.old.node.now self.old.own.now socket link }
         ensures went { GoesAs W.tells W.links W.failures F.told F.synced S.drawn result self.old self.new }
-        ensures same { IsSame W.waited S.clock self.old self.new }
+        ensures same { IsSame W.waited self.old self.new }
         ensures device { IsErrOf result LoopFault.File → self.new.log.now.broken ≡ true }
         ensures quiet { OthersWait self.old.node.now link → IfOk result (λ used. WaitsUnless used link self.new.node.now) }
         ensures linked { IfOk result (λ used. used ≡ true → IsLinked self.new.node.now self.new.own.now socket link) }
@@ -81,13 +82,13 @@ impl<W: Wire, F: LogFile, S: Source> Host<'_, '_, W, F, S> {
         requires has { HasLink self.old.own.now.connections socket link }
         requires light { IsLight self.old.node.now self.old.own.now socket link }
         ensures went { GoesAs W.tells W.links W.failures F.told F.synced S.drawn result self.old self.new }
-        ensures same { IsSame W.waited S.clock self.old self.new }
+        ensures same { IsSame W.waited self.old self.new }
         ensures device { IsErrOf result LoopFault.File → self.new.log.now.broken ≡ true }
         ensures quiet { OthersWait self.old.node.now link → IfOk result (λ used. WaitsUnless used link self.new.node.now) }
         ensures linked { IfOk result (λ used. used ≡ true → IsLinked self.new.node.now self.new.own.now socket link) }
         ensures uses { IfOk result (λ used. used ≡ true → left_at self.new.node.now link < left_at self.old.node.now link) }
     {
-        let given = self.moment.given(self.source.word());
+        let given = given(self.source);
         let fresh = self.moment.fresh();
         let place = self.place(link);
         self.moment.count_step();
@@ -135,7 +136,7 @@ impl<W: Wire, F: LogFile, S: Source> Host<'_, '_, W, F, S> {
         requires input { HasInput self.old.node.now link }
         requires linked { IsLinked self.old.node.now self.old.own.now socket link }
         ensures went { GoesAs W.tells W.links W.failures F.told F.synced S.drawn result self.old self.new }
-        ensures same { IsSame W.waited S.clock self.old self.new }
+        ensures same { IsSame W.waited self.old self.new }
         ensures device { IsErrOf result LoopFault.File → self.new.log.now.broken ≡ true }
         ensures quiet { OthersWait self.old.node.now link → IfOk result (λ there. there ≡ false → AllWait self.new.node.now) }
         ensures node { IfOk result (λ there. there ≡ true → self.new.node.now ≡ self.old.node.now) }

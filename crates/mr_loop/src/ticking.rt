@@ -7,6 +7,7 @@ ghost use Rattle.mr_loop.specs.Quiet.{AllWait};
 
 use crate::fault::LoopFault;
 use crate::host::Host;
+use crate::moment::given;
 use mr_file::LogFile;
 use mr_node::NodeFault;
 use mr_outs::Outs;
@@ -17,7 +18,7 @@ impl<W: Wire, F: LogFile, S: Source> Host<'_, '_, W, F, S> {
     /// Has time pass at the node, again and again while it deletes, and so often at most. It answers whether more may be due.
     pub(crate) fn tick_all(&mut self) -> Result<bool, LoopFault>
         ensures went { PassesAs W.tells W.links W.failures F.told F.synced S.drawn result (most_ticks self.old.moment.turn.done) self.old self.new }
-        ensures same { IsSame W.waited S.clock self.old self.new }
+        ensures same { IsSame W.waited self.old self.new }
         ensures device { IsErrOf result LoopFault.File → self.new.log.now.broken ≡ true }
         ensures quiet { AllWait self.old.node.now → OnOk result (AllWait self.new.node.now) }
     {
@@ -34,11 +35,11 @@ impl<W: Wire, F: LogFile, S: Source> Host<'_, '_, W, F, S> {
     /// Time passes at the node. It answers whether another tick may still delete.
     fn tick(&mut self) -> Result<bool, LoopFault>
         ensures went { TicksAs W.tells W.links W.failures F.told F.synced S.drawn result self.old self.new }
-        ensures same { IsSame W.waited S.clock self.old self.new }
+        ensures same { IsSame W.waited self.old self.new }
         ensures device { IsErrOf result LoopFault.File → self.new.log.now.broken ≡ true }
         ensures quiet { AllWait self.old.node.now → OnOk result (AllWait self.new.node.now) }
     {
-        let given = self.moment.given(self.source.word());
+        let given = given(self.source);
         match self.node.tick(given) {
             Ok(outs) => {
                 self.node.sound();

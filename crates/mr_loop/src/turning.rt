@@ -43,7 +43,7 @@ pub fn turn<W: Wire, F: LogFile, S: Source>(
     requires filed { links.old.batch ≡ [] }
     requires runs { links.old.halted ≡ false }
     requires up { node.old.core.up ≡ true }
-    ensures went { Turns W.tells log.old.mode (S.clock source.new) [] (S.drawn source.old) (S.drawn source.new) result (stage node.old links.old (W.links wire.old) (W.failures wire.old) (F.told log.old.file) (F.synced log.old.file)) (stage node.new links.new (W.links wire.new) (W.failures wire.new) (F.told log.new.file) (F.synced log.new.file)) }
+    ensures went { Turns W.tells log.old.mode [] (S.drawn source.old) (S.drawn source.new) result (stage node.old links.old (W.links wire.old) (W.failures wire.old) (F.told log.old.file) (F.synced log.old.file)) (stage node.new links.new (W.links wire.new) (W.failures wire.new) (F.told log.new.file) (F.synced log.new.file)) }
     ensures written { OnOk result (links.new.batch ≡ []) }
     ensures mode { log.new.mode ≡ log.old.mode }
     ensures device { IsErrOf result LoopFault.File → log.new.broken ≡ true }
@@ -65,7 +65,7 @@ pub fn turn<W: Wire, F: LogFile, S: Source>(
     }
 }
 
-/// A turn behind its wait, at this moment.
+/// A turn behind its wait.
 fn turn_at<W: Wire, F: LogFile, S: Source>(
     node: &mut Node,
     own: &mut Links,
@@ -77,7 +77,7 @@ fn turn_at<W: Wire, F: LogFile, S: Source>(
     requires filed { own.old.batch ≡ [] }
     requires begun { moment.turn ≡ nothing_counted }
     requires up { node.old.core.up ≡ true }
-    ensures went { Turns W.tells log.old.mode moment.time (moment.fresh ∷ []) (S.drawn source.old) (S.drawn source.new) result (stage node.old own.old (W.links wire.old) (W.failures wire.old) (F.told log.old.file) (F.synced log.old.file)) (stage node.new own.new (W.links wire.new) (W.failures wire.new) (F.told log.new.file) (F.synced log.new.file)) }
+    ensures went { Turns W.tells log.old.mode (moment.fresh ∷ []) (S.drawn source.old) (S.drawn source.new) result (stage node.old own.old (W.links wire.old) (W.failures wire.old) (F.told log.old.file) (F.synced log.old.file)) (stage node.new own.new (W.links wire.new) (W.failures wire.new) (F.told log.new.file) (F.synced log.new.file)) }
     ensures written { OnOk result (own.new.batch ≡ []) }
     ensures mode { log.new.mode ≡ log.old.mode }
     ensures device { IsErrOf result LoopFault.File → log.new.broken ≡ true }
@@ -87,7 +87,6 @@ fn turn_at<W: Wire, F: LogFile, S: Source>(
     ensures down { OnErr result (node.new.core.up ≡ false) }
     ensures up { OnOk result (node.new.core.up ≡ true) }
     ensures waited { W.waited wire.new ≡ W.waited wire.old }
-    ensures clock { S.clock source.new ≡ S.clock source.old }
 {
     let mut host = Host {
         node,
@@ -134,9 +133,9 @@ impl<W: Wire, F: LogFile, S: Source> Host<'_, '_, W, F, S> {
     fn run(&mut self) -> Result<Turn, LoopFault>
         requires filed { self.old.own.now.batch ≡ [] }
         requires begun { self.old.moment.turn ≡ nothing_counted }
-        ensures went { Turns W.tells self.old.log.now.mode self.old.moment.time (self.old.moment.fresh ∷ []) (S.drawn self.old.source.now) (S.drawn self.new.source.now) result (stage_in W.links W.failures F.told F.synced self.old) (stage_in W.links W.failures F.told F.synced self.new) }
+        ensures went { Turns W.tells self.old.log.now.mode (self.old.moment.fresh ∷ []) (S.drawn self.old.source.now) (S.drawn self.new.source.now) result (stage_in W.links W.failures F.told F.synced self.old) (stage_in W.links W.failures F.told F.synced self.new) }
         ensures written { OnOk result (self.new.own.now.batch ≡ []) }
-        ensures same { IsSame W.waited S.clock self.old self.new }
+        ensures same { IsSame W.waited self.old self.new }
         ensures device { IsErrOf result LoopFault.File → self.new.log.now.broken ≡ true }
         ensures quiet { AllWait self.old.node.now → OnOk result (AllWait self.new.node.now) }
         ensures closed { OnOk result (NoneDone self.new.own.now.connections) }
@@ -159,7 +158,7 @@ impl<W: Wire, F: LogFile, S: Source> Host<'_, '_, W, F, S> {
         requires begun { self.old.moment.turn ≡ nothing_counted }
         ensures went { GoesTelling W.tells W.links W.failures F.told F.synced S.drawn result self.old self.new }
         ensures written { OnOk result (self.new.own.now.batch ≡ []) }
-        ensures same { IsSame W.waited S.clock self.old self.new }
+        ensures same { IsSame W.waited self.old self.new }
         ensures device { IsErrOf result LoopFault.File → self.new.log.now.broken ≡ true }
         ensures quiet { AllWait self.old.node.now → OnOk result (AllWait self.new.node.now) }
         ensures closed { OnOk result (NoneDone self.new.own.now.connections) }
@@ -180,7 +179,7 @@ impl<W: Wire, F: LogFile, S: Source> Host<'_, '_, W, F, S> {
         ensures went { GoesAs W.tells W.links W.failures F.told F.synced S.drawn result self.old self.new }
         ensures written { OnOk result (self.new.own.now.batch ≡ []) }
         ensures closed { OnOk result (NoneDone self.new.own.now.connections) }
-        ensures same { IsSame W.waited S.clock self.old self.new }
+        ensures same { IsSame W.waited self.old self.new }
         ensures moment { OnOk result (moment_in S.drawn self.new ≡ moment_in S.drawn self.old) }
         ensures core { self.new.node.now.core ≡ self.old.node.now.core }
         ensures device { IsErrOf result LoopFault.File → self.new.log.now.broken ≡ true }
@@ -195,7 +194,7 @@ impl<W: Wire, F: LogFile, S: Source> Host<'_, '_, W, F, S> {
     fn send_all(&mut self) -> Result<(), LoopFault>
         ensures went { GoesAs W.tells W.links W.failures F.told F.synced S.drawn result self.old self.new }
         ensures written { OnOk result (self.new.own.now.batch ≡ []) }
-        ensures same { IsSame W.waited S.clock self.old self.new }
+        ensures same { IsSame W.waited self.old self.new }
         ensures moment { OnOk result (moment_in S.drawn self.new ≡ moment_in S.drawn self.old) }
         ensures core { self.new.node.now.core ≡ self.old.node.now.core }
         ensures device { IsErrOf result LoopFault.File → self.new.log.now.broken ≡ true }
@@ -209,7 +208,7 @@ impl<W: Wire, F: LogFile, S: Source> Host<'_, '_, W, F, S> {
     /// Serves each connection whose socket is ready. It answers whether one of them may have more to read.
     fn read_all(&mut self) -> Result<bool, LoopFault>
         ensures went { GoesAs W.tells W.links W.failures F.told F.synced S.drawn result self.old self.new }
-        ensures same { IsSame W.waited S.clock self.old self.new }
+        ensures same { IsSame W.waited self.old self.new }
         ensures device { IsErrOf result LoopFault.File → self.new.log.now.broken ≡ true }
         ensures quiet { AllWait self.old.node.now → OnOk result (AllWait self.new.node.now) }
     {
@@ -223,7 +222,7 @@ impl<W: Wire, F: LogFile, S: Source> Host<'_, '_, W, F, S> {
     /// Reads of each connection whose socket is ready, and steps as far as its bytes go. It answers whether more is left to read.
     fn read_each(&mut self, piece: &mut [u8]) -> Result<bool, LoopFault>
         ensures went { GoesAs W.tells W.links W.failures F.told F.synced S.drawn result self.old self.new }
-        ensures same { IsSame W.waited S.clock self.old self.new }
+        ensures same { IsSame W.waited self.old self.new }
         ensures device { IsErrOf result LoopFault.File → self.new.log.now.broken ≡ true }
         ensures quiet { AllWait self.old.node.now → OnOk result (AllWait self.new.node.now) }
     {
@@ -238,7 +237,7 @@ impl<W: Wire, F: LogFile, S: Source> Host<'_, '_, W, F, S> {
     /// Serves the connection that is ready there, and has what waits on it written next.
     fn read_at(&mut self, piece: &mut [u8], index: usize) -> Result<bool, LoopFault>
         ensures went { GoesAs W.tells W.links W.failures F.told F.synced S.drawn result self.old self.new }
-        ensures same { IsSame W.waited S.clock self.old self.new }
+        ensures same { IsSame W.waited self.old self.new }
         ensures device { IsErrOf result LoopFault.File → self.new.log.now.broken ≡ true }
         ensures quiet { AllWait self.old.node.now → OnOk result (AllWait self.new.node.now) }
     {
@@ -253,7 +252,7 @@ impl<W: Wire, F: LogFile, S: Source> Host<'_, '_, W, F, S> {
     /// Reads of a connection and steps, until nothing more is there. It answers whether it left off before that.
     fn read_connection(&mut self, piece: &mut [u8], socket: LinkId) -> Result<bool, LoopFault>
         ensures went { GoesAs W.tells W.links W.failures F.told F.synced S.drawn result self.old self.new }
-        ensures same { IsSame W.waited S.clock self.old self.new }
+        ensures same { IsSame W.waited self.old self.new }
         ensures device { IsErrOf result LoopFault.File → self.new.log.now.broken ≡ true }
         ensures quiet { AllWait self.old.node.now → OnOk result (AllWait self.new.node.now) }
     {

@@ -1,6 +1,5 @@
-use Rattle.std.proofs.Common.{[], ◌∷◌, ap, refl, subst, sym, ◌∙◌}
+use Rattle.std.proofs.Common.{ap, refl, ◌∙◌}
 use Rattle.mr_wire.specs.Wire.{WireState}
-use Rattle.mr_loop.specs.Outcomes.{Turns}
 use Rattle.mr_loop.specs.Rows.{HasWaited}
 use Rattle.mr_loop.specs.Stage.{stage}
 use Rattle.mr_loop.proofs.Runs.{waited_turns}
@@ -17,8 +16,8 @@ returns-in-Ok-clause-went g c =
     let t = stage new.node new.own (g.W.Wire.links new.wire) (g.W.Wire.failures new.wire) (g.F.LogFile.told new.log.file) (g.F.LogFile.synced new.log.file) in
     let moment = c.begun-moment.result in
     let first = g.S.Source.drawn c.begun-moment.new.source in
-    waited_turns g.W.Wire.tells log.mode (g.S.Source.clock new.source) moment.fresh (g.S.Source.drawn c.args.source.now) first (g.S.Source.drawn new.source) s (on (g.W.Wire.links wire)) t c.turn_at.result c.begun-moment.ensures.drawn waited c.turn_at.ensures.listener
-    (subst (λ now. Turns g.W.Wire.tells log.mode now (moment.fresh ∷ []) first (g.S.Source.drawn new.source) c.turn_at.result (on (g.W.Wire.links wire)) t) (c.begun-moment.ensures.time ∙ sym c.turn_at.ensures.clock) c.turn_at.ensures.went)
+    waited_turns g.W.Wire.tells log.mode moment.fresh moment.begun (g.S.Source.drawn c.args.source.now) first (g.S.Source.drawn new.source) s (on (g.W.Wire.links wire)) t c.turn_at.result c.begun-moment.ensures.drawn c.begun-moment.ensures.forward waited c.turn_at.ensures.listener
+    c.turn_at.ensures.went
 
 pub returns-in-Ok-clause-hurries : goal.returns-in-Ok-clause-hurries
 returns-in-Ok-clause-hurries g c = λ tells hurries. c.turn_at.ensures.waited ∙ c.wait.ensures.hurries tells hurries

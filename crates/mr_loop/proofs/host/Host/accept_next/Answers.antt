@@ -12,7 +12,7 @@ returns-in-Ok-None-clause-went g c =
     let s = c.args.self.now in
     let same : g.W.Wire.links c.accept.new.self ≡ g.W.Wire.links s.wire.now = search rules in
     let moment = moment_in g.S.Source.drawn s in
-    still_one waits moment moment refl refl refl refl refl refl refl (λ now ids. refl) (record {
+    still_one waits moment moment refl refl refl refl refl refl refl refl (λ ids. refl) (record {
       later = c.accept.ensures.later;
       is = ap (λ (w : WireState). stage s.node.now s.own.now w (g.W.Wire.failures c.accept.new.self) (g.F.LogFile.told s.log.now.file) (g.F.LogFile.synced s.log.now.file)) same;
     }) refl
@@ -20,4 +20,4 @@ returns-in-Ok-None-clause-went g c =
 pub returns-in-Err-clause-went : goal.returns-in-Err-clause-went
 returns-in-Err-clause-went g c =
     let moment = moment_in g.S.Source.drawn c.args.self.now in
-    still_one turns_away moment moment refl refl refl refl refl refl refl (λ now ids. refl) (failed_row c.in-Err.ensures.err c.in-Err.ensures.cause c.in-Err.ensures.later refl refl (refl, refl)) refl
+    still_one turns_away moment moment refl refl refl refl refl refl refl refl (λ ids. refl) (failed_row c.in-Err.ensures.err c.in-Err.ensures.cause c.in-Err.ensures.later refl refl (refl, refl)) refl

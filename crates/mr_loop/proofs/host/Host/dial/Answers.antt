@@ -29,4 +29,4 @@ returns-in-Ok-clause-went g c =
 pub returns-in-Err-clause-went : goal.returns-in-Err-clause-went
 returns-in-Err-clause-went g c =
     let moment = moment_in g.S.Source.drawn c.args.self.now in
-    still_one misses_dial moment moment refl refl refl refl refl refl refl (λ now ids. refl) (failed_row c.in-Err.ensures.err c.in-Err.ensures.cause c.in-Err.ensures.later refl c.note_dial.ensures (refl, refl)) refl
+    still_one misses_dial moment moment refl refl refl refl refl refl refl refl (λ ids. refl) (failed_row c.in-Err.ensures.err c.in-Err.ensures.cause c.in-Err.ensures.later refl c.note_dial.ensures (refl, refl)) refl

@@ -8,6 +8,7 @@ use Rattle.mr_loop.specs.Rows.{misses_dial, stops}
 use Rattle.mr_loop.specs.Hosts.{moment_in}
 use Rattle.mr_loop.proofs.Arrivals.{closed_again, dialled_as, dialled_waits, full_row, lacks_row, ok_no_err}
 use Rattle.mr_loop.proofs.Runs.{broke_one, still_broke, still_one}
+use Rattle.mr_loop.proofs.Supplying.{tells_none}
 use Rattle.mr_loop.proofs.Waiting.{all_is, closed_all, dialled_all}
 use Rattle.mr_loop.proofs.host.Host.dial_on.Goals as goal
 
@@ -44,7 +45,7 @@ returns-in-Ok-join-clause-quiet g c = λ q.
 pub returns-in-Err-join-clause-went : goal.returns-in-Err-join-clause-went
 returns-in-Err-join-clause-went g c = λ before failed address told came later.
     let moment = moment_in g.S.Source.drawn c.args.self.now in
-    still_one misses_dial moment moment refl refl refl refl refl refl refl (λ now ids. refl)
+    still_one misses_dial moment moment refl refl refl refl refl refl refl refl (λ ids. refl)
     (lacks_row
     (closed_again before (g.W.Wire.links c.args.self.now.wire.now) (g.W.Wire.links c.close-in-Err-join.new.self) c.args.socket (asked_link came.0) came.2 c.close-in-Err-join.ensures.closed c.close-in-Err-join.ensures.opened c.close-in-Err-join.ensures.sent)
     (subst (λ k. failed ≤ k) (sym c.close-in-Err-join.ensures.failures) later) (dials_and_closes c.dial.new.self c.in-Ok.link c.in-Ok.outs c.in-Ok.ensures.1 c.sound.ensures c.close.ensures) c.in-Err-join.ensures.err (refl, refl)) refl
@@ -57,22 +58,22 @@ returns-in-Err-Stopped-clause-went g c = λ before failed address told came late
     let moment = moment_in g.S.Source.drawn c.args.self.now in
     let is = c.in-Err-Stopped.is ∙ ap Err c.in-Err-Stopped.field-0-is in
     let row = subst (DialRow c.args.self.now.node.now c.dial.new.self) is c.dial.ensures in
-    still_broke (still_one misses_dial moment moment refl refl refl refl refl refl refl (λ now ids. refl)
+    still_broke (still_one misses_dial moment moment refl refl refl refl refl refl refl refl (λ ids. refl)
     (full_row c.dial.new.self
     (closed_again before (g.W.Wire.links c.args.self.now.wire.now) (g.W.Wire.links c.close-in-Err-Stopped.new.self) c.args.socket (asked_link came.0) came.2 c.close-in-Err-Stopped.ensures.closed c.close-in-Err-Stopped.ensures.opened c.close-in-Err-Stopped.ensures.sent)
     (subst (λ k. failed ≤ k) (sym c.close-in-Err-Stopped.ensures.failures) later) row refl refl (refl, refl)) refl)
-    (broke_one (stops stops_at_open) (c.args.self.now.moment.fresh ∷ []) refl refl refl (record { why = row; own = refl; wire = refl; failed = refl; file = (refl, refl) }))
+    (broke_one (stops stops_at_open) (c.args.self.now.moment.fresh ∷ []) refl refl (tells_none refl) (record { why = row; own = refl; wire = refl; failed = refl; file = (refl, refl) }))
 
 pub returns-in-Err : goal.returns-in-Err
 returns-in-Err g c =
     let moment = moment_in g.S.Source.drawn c.args.self.now in
     let same : c.dial.new.self ≡ c.args.self.now.node.now = search rules in
     record {
-      went = λ before failed address told came later. still_one misses_dial moment moment refl refl refl refl refl refl refl (λ now ids. refl)
+      went = λ before failed address told came later. still_one misses_dial moment moment refl refl refl refl refl refl refl refl (λ ids. refl)
           (lacks_row
           (closed_again before (g.W.Wire.links c.args.self.now.wire.now) (g.W.Wire.links c.close-in-Err.new.self) c.args.socket (asked_link came.0) came.2 c.close-in-Err.ensures.closed c.close-in-Err.ensures.opened c.close-in-Err.ensures.sent)
           (subst (λ k. failed ≤ k) (sym c.close-in-Err.ensures.failures) later) (stays same) c.lack.ensures (refl, refl)) refl;
-      same = record { node = refl; own = refl; wire = refl; log = refl; source = refl; time = refl; mode = refl; wait_stays = c.close-in-Err.ensures.waited; clock_stays = refl };
+      same = record { node = refl; own = refl; wire = refl; log = refl; source = refl; mode = refl; wait_stays = c.close-in-Err.ensures.waited };
       device = λ wrong. absurd (ok_no_err tt fault.File wrong);
       quiet = λ q. all_is same q;
     }

@@ -8,7 +8,7 @@ pub loop-init : goal.loop-init
 loop-init g c =
     let s = c.args.self.now in (
       (ap (λ (o : LoopState). stage s.node.now o (g.W.Wire.links s.wire.now) (g.W.Wire.failures s.wire.now) (g.F.LogFile.told s.log.now.file) (g.F.LogFile.synced s.log.now.file)) c.serve_nobody.ensures, refl),
-      record { node = refl; own = refl; wire = refl; log = refl; source = refl; time = refl; mode = refl; wait_stays = refl; clock_stays = refl },
+      record { node = refl; own = refl; wire = refl; log = refl; source = refl; mode = refl; wait_stays = refl },
     )
 
 pub returns-in-None-clause-stays : goal.returns-in-None-clause-stays
@@ -20,7 +20,7 @@ returns-in-None-clause-stays g c =
     )
 
 pub returns-in-None-clause-same : goal.returns-in-None-clause-same
-returns-in-None-clause-same g c = same_on c.args.self.now c.loop.self _ c.loop.invariant.1 (record { node = refl; own = refl; wire = refl; log = refl; source = refl; time = refl; mode = refl; wait_stays = c.in-None.ensures.waited; clock_stays = refl })
+returns-in-None-clause-same g c = same_on c.args.self.now c.loop.self _ c.loop.invariant.1 (record { node = refl; own = refl; wire = refl; log = refl; source = refl; mode = refl; wait_stays = c.in-None.ensures.waited })
 
 pub loop-preserved : goal.loop-preserved
 loop-preserved g c =
@@ -31,7 +31,7 @@ loop-preserved g c =
             ∙ (ap (λ k. stage s.node.now s.own.now (g.W.Wire.links s.wire.now) k (g.F.LogFile.told s.log.now.file) (g.F.LogFile.synced s.log.now.file)) c.in-Some.ensures.failures ∙ c.loop.invariant.0.0)),
         c.loop.invariant.0.1,
       ),
-      same_on c.args.self.now c.loop.self _ c.loop.invariant.1 (record { node = refl; own = refl; wire = refl; log = refl; source = refl; time = refl; mode = refl; wait_stays = c.in-Some.ensures.waited; clock_stays = refl }),
+      same_on c.args.self.now c.loop.self _ c.loop.invariant.1 (record { node = refl; own = refl; wire = refl; log = refl; source = refl; mode = refl; wait_stays = c.in-Some.ensures.waited }),
     )
 
 pub returns-clause-stays : goal.returns-clause-stays

@@ -14,7 +14,7 @@ use Rattle.mr_loop.proofs.host.Host.read_into.Goals as goal
 pub returns-then-count-eq0-clause-went : goal.returns-then-count-eq0-clause-went
 returns-then-count-eq0-clause-went g c =
     let moment = moment_in g.S.Source.drawn c.args.self.now in
-    still_one (finds_none c.args.socket) moment moment refl refl refl refl refl refl refl (λ now ids. refl) (record {
+    still_one (finds_none c.args.socket) moment moment refl refl refl refl refl refl refl refl (λ ids. refl) (record {
       link = c.args.link;
       read = c.requires.read;
       answer = moved.Bytes c.in-Bytes.count;
@@ -33,7 +33,7 @@ returns-in-Ok-clause-went g c =
     let moment = moment_in g.S.Source.drawn c.args.self.now in
     let long : length c.read.new.into ≡ length c.args.buffer.now = search rules in
     let room = subst (HasRoom c.args.self.now.node.now c.args.link) (sym long) c.requires.room in
-    still_one (takes c.args.socket (take c.in-Bytes.count c.read.new.into)) moment moment refl refl refl refl refl refl refl (λ now ids. refl) (record {
+    still_one (takes c.args.socket (take c.in-Bytes.count c.read.new.into)) moment moment refl refl refl refl refl refl refl refl (λ ids. refl) (record {
       link = c.args.link;
       read = c.requires.read;
       count = c.in-Bytes.count;
@@ -56,7 +56,7 @@ returns-in-Err-clause-went g c =
     let same = fed_none s.node.now c.feed.new.self c.args.link (take c.in-Bytes.count c.read.new.into) _ c.in-Err._refused c.in-Err.ensures in
     let long : length c.read.new.into ≡ length c.args.buffer.now = search rules in
     let room = subst (HasRoom s.node.now c.args.link) (sym long) c.requires.room in
-    still_one (misses c.args.socket) (moment_in g.S.Source.drawn s) (moment_in g.S.Source.drawn c.drop_connection.new.self) refl refl refl refl refl refl refl (λ now ids. refl) (record {
+    still_one (misses c.args.socket) (moment_in g.S.Source.drawn s) (moment_in g.S.Source.drawn c.drop_connection.new.self) refl refl refl refl refl refl refl refl (λ ids. refl) (record {
       link = c.args.link;
       read = c.requires.read;
       count = c.in-Bytes.count;
@@ -77,7 +77,7 @@ returns-in-Err-clause-quiet g c = λ q.
 pub returns-in-NotReady-clause-went : goal.returns-in-NotReady-clause-went
 returns-in-NotReady-clause-went g c =
     let moment = moment_in g.S.Source.drawn c.args.self.now in
-    still_one (finds_none c.args.socket) moment moment refl refl refl refl refl refl refl (λ now ids. refl) (record {
+    still_one (finds_none c.args.socket) moment moment refl refl refl refl refl refl refl refl (λ ids. refl) (record {
       link = c.args.link;
       read = c.requires.read;
       answer = moved.NotReady;
@@ -95,7 +95,7 @@ pub returns-in-End-clause-went : goal.returns-in-End-clause-went
 returns-in-End-clause-went g c =
     let s = c.args.self.now in
     let touched : Touches (g.W.Wire.links s.wire.now) c.args.socket (behind_read g.W.Wire.tells moved.End c.read.new.into) [] (g.W.Wire.links c.read.new.self) = record { changes = c.in-End.ensures.read; absent = λ e. (c.read.ensures.absent e).1 } in
-    still_one (hears_end c.args.socket c.args.link) (moment_in g.S.Source.drawn s) (moment_in g.S.Source.drawn c.part.new.self) refl refl refl refl refl refl refl (λ now ids. refl) (record {
+    still_one (hears_end c.args.socket c.args.link) (moment_in g.S.Source.drawn s) (moment_in g.S.Source.drawn c.part.new.self) refl refl refl refl refl refl refl refl (λ ids. refl) (record {
       read = c.requires.read;
       buffer = c.read.new.into;
       wire = subst (Touches (g.W.Wire.links s.wire.now) c.args.socket (behind_read g.W.Wire.tells moved.End c.read.new.into) []) (sym (ap g.W.Wire.links c.part.ensures.wire)) touched;
@@ -110,7 +110,7 @@ returns-in-End-clause-quiet g c = λ q. all_is c.part.ensures.node (closed_all c
 
 pub returns-in-Failed-clause-went : goal.returns-in-Failed-clause-went
 returns-in-Failed-clause-went g c =
-    still_one (loses c.args.socket) (moment_in g.S.Source.drawn c.args.self.now) (moment_in g.S.Source.drawn c.drop_connection-in-Failed.new.self) refl refl refl refl refl refl refl (λ now ids. refl) (record {
+    still_one (loses c.args.socket) (moment_in g.S.Source.drawn c.args.self.now) (moment_in g.S.Source.drawn c.drop_connection-in-Failed.new.self) refl refl refl refl refl refl refl refl (λ ids. refl) (record {
       link = c.args.link;
       read = c.requires.read;
       buffer = c.read.new.into;

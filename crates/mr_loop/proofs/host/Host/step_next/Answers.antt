@@ -5,6 +5,7 @@ use Rattle.mr_loop.specs.Rows.{stops}
 use Rattle.mr_loop.specs.Stage.{LoopState}
 use Rattle.mr_loop.proofs.Linked.{linked_as}
 use Rattle.mr_loop.proofs.Runs.{breaks, broke_moded, broke_one, still_broke, still_here, still_moded, still_on}
+use Rattle.mr_loop.proofs.Supplying.{tells_none}
 use Rattle.mr_loop.proofs.host.Host.step_next.Goals as goal
 
 pub returns-in_err-has_unread-clause-went : goal.returns-in_err-has_unread-clause-went
@@ -13,7 +14,7 @@ returns-in_err-has_unread-clause-went g c =
     let why = c.in_err-has_unread.field-0.0 in
     let told : c.from_residual.result ≡ Err why = search rules in
     let fault = c.in_err-has_unread.ensures.fault in
-    breaks moment moment c.from_residual.result why told (broke_one (stops was_down) (c.args.self.now.moment.fresh ∷ []) (ap Some (sym fault.0)) refl refl (record { why = (fault.1, refl); own = refl; wire = refl; failed = refl; file = (refl, refl) }))
+    breaks moment moment c.from_residual.result why told (broke_one (stops was_down) (c.args.self.now.moment.fresh ∷ []) (ap Some (sym fault.0)) refl (tells_none refl) (record { why = (fault.1, refl); own = refl; wire = refl; failed = refl; file = (refl, refl) }))
 
 pub returns-then-not-branch-clause-went : goal.returns-then-not-branch-clause-went
 returns-then-not-branch-clause-went g c = still_here (moment_in g.S.Source.drawn c.args.self.now) (stage_in g.W.Wire.links g.W.Wire.failures g.F.LogFile.told g.F.LogFile.synced c.args.self.now)

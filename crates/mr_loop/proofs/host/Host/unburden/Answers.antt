@@ -25,7 +25,7 @@ returns-clause-went g c =
     let same = same_on c.args.self.now c.commit.new.self c.write_ready.new.self c.commit.ensures.same c.write_ready.ensures.same in
     still_then same.mode (still_then c.commit.ensures.same.mode c.in_ok-commit.ensures.went c.write_ready.ensures.went)
     (deaf_still c.args.socket c.args.link (moment_in g.S.Source.drawn c.write_ready.new.self) (moment_in g.S.Source.drawn c.drop_connection.new.self) (moment_in g.S.Source.drawn (record c.drop_connection.new.self { moment = c.count_deaf.new.self })) c.drop_connection.ensures.moment
-    c.count_deaf.ensures.turn c.count_deaf.ensures.time c.count_deaf.ensures.fresh refl
+    c.count_deaf.ensures.turn c.count_deaf.ensures.fresh refl
     (deaf_row c.args.socket c.args.link c.args.self.now.node.now (there.0 ∙ c.commit.ensures.node) c.requires.input there.1 (c.is_burdened-2.ensures.burdened c.if-not-is_burdened-2.false) c.drop_connection.ensures.dropped))
 
 pub returns-clause-quiet : goal.returns-clause-quiet

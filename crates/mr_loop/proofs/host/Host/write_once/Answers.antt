@@ -16,7 +16,7 @@ returns-then-is_empty-clause-went g c = still_here (moment_in g.S.Source.drawn c
 pub returns-then-count-gt0-clause-went : goal.returns-then-count-gt0-clause-went
 returns-then-count-gt0-clause-went g c =
     let moment = moment_in g.S.Source.drawn c.args.self.now in let connection = c.in-Some.connection.now in let count = c.in-Bytes.count in
-    still_one (writes c.args.socket (take count connection.waiting)) moment moment refl refl refl refl refl refl refl (λ now ids. refl)
+    still_one (writes c.args.socket (take count connection.waiting)) moment moment refl refl refl refl refl refl refl refl (λ ids. refl)
     (writes_row c.args.socket connection (moved.Bytes count) c.waiting-2.result.now c.requires c.in-Some.ensures c.waiting-2.ensures (some_failed count) c.in-Bytes.ensures.within c.in-Bytes.ensures.written (λ e. (c.in-Bytes.ensures.absent e).1) c.write.ensures.later c.wrote.ensures refl (refl, refl)) refl
 
 pub returns-then-count-gt0-clause-wrote : goal.returns-then-count-gt0-clause-wrote
@@ -29,7 +29,7 @@ returns-then-count-gt0-clause-wrote g c = λ link has. (
 pub returns-else-count-gt0-clause-went : goal.returns-else-count-gt0-clause-went
 returns-else-count-gt0-clause-went g c =
     let moment = moment_in g.S.Source.drawn c.args.self.now in let connection = c.in-Some.connection.now in let count = c.in-Bytes.count in
-    still_one (writes c.args.socket (take count connection.waiting)) moment moment refl refl refl refl refl refl refl (λ now ids. refl)
+    still_one (writes c.args.socket (take count connection.waiting)) moment moment refl refl refl refl refl refl refl refl (λ ids. refl)
     (writes_row c.args.socket connection (moved.Bytes count) c.waiting-2.result.now c.requires c.in-Some.ensures c.waiting-2.ensures (some_failed count) c.in-Bytes.ensures.within c.in-Bytes.ensures.written (λ e. (c.in-Bytes.ensures.absent e).1) c.write.ensures.later c.wrote.ensures refl (refl, refl)) refl
 
 pub returns-else-count-gt0-clause-wrote : goal.returns-else-count-gt0-clause-wrote
@@ -45,7 +45,7 @@ returns-else-count-gt0-clause-wrote g c = λ link has. (
 pub returns-in-NotReady-clause-went : goal.returns-in-NotReady-clause-went
 returns-in-NotReady-clause-went g c =
     let moment = moment_in g.S.Source.drawn c.args.self.now in let connection = c.in-Some.connection.now in
-    still_one (writes c.args.socket (take 0 connection.waiting)) moment moment refl refl refl refl refl refl refl (λ now ids. refl)
+    still_one (writes c.args.socket (take 0 connection.waiting)) moment moment refl refl refl refl refl refl refl refl (λ ids. refl)
     (writes_none c.args.socket connection c.write.result c.waiting-2.result.now c.in-NotReady.is c.requires c.in-Some.ensures c.waiting-2.ensures c.write.ensures.within c.write.ensures.written (λ e. (c.write.ensures.absent e).1) c.write.ensures.later c.wrote-in-NotReady.ensures refl (refl, refl)) refl
 
 pub returns-in-NotReady-clause-wrote : goal.returns-in-NotReady-clause-wrote
@@ -59,7 +59,7 @@ returns-in-NotReady-clause-wrote g c = λ link has. (
 
 pub returns-in-Failed-clause-went : goal.returns-in-Failed-clause-went
 returns-in-Failed-clause-went g c =
-    still_one (breaks c.args.socket) (moment_in g.S.Source.drawn c.args.self.now) (moment_in g.S.Source.drawn c.drop_connection.new.self) refl refl refl refl refl refl refl (λ now ids. refl)
+    still_one (breaks c.args.socket) (moment_in g.S.Source.drawn c.args.self.now) (moment_in g.S.Source.drawn c.drop_connection.new.self) refl refl refl refl refl refl refl refl (λ ids. refl)
     (breaks_row c.args.socket c.in-Some.connection.now c.link-link.result c.waiting-2.result.now (g.W.Wire.links c.write.new.self) (g.W.Wire.failures c.write.new.self) c.requires c.in-Some.ensures c.link-link.ensures c.waiting-2.ensures c.in-Failed.ensures.written (λ e. (c.write.ensures.absent e).1) (c.in-Failed.ensures.cause refl) c.drop_connection.ensures.dropped) c.drop_connection.ensures.moment
 
 pub returns-in-Failed-clause-quiet : goal.returns-in-Failed-clause-quiet
