@@ -16,8 +16,8 @@ use Rattle.mr_node.specs.declared.fault.NodeFault.TheVariants as refusal
 use Rattle.mr_node.specs.declared.step.Step.TheVariants as step
 use Rattle.mr_loop.specs.Stage.{Stage}
 use Rattle.mr_loop.specs.Carrying.{Carried}
-use Rattle.mr_loop.specs.Causes.{Act, Calls, HasRoom, Stop, Stopping, TurnsOff, at_dial, at_step, at_tick, ended_at, stops_at_open, stops_at_step, was_down}
-use Rattle.mr_loop.specs.Rows.{Event, fault_of, Happens, Run, acts, appends, breaks, closes, fails, finds_none, hears_end, idles, is_deaf, is_refused, joins, loses, misses, misses_dial, misses_tick, settles, spills, stops, takes, tears, turns_away, waits, writes}
+use Rattle.mr_loop.specs.Causes.{Act, Calls, HasRoom, Stop, Stopping, TurnsOff, at_dial, at_step, at_tick, ended_at, stops_at_open, stops_at_step, stops_at_tick, was_down}
+use Rattle.mr_loop.specs.Rows.{Event, fault_of, Happens, Run, acts, appends, breaks, closes, fails, finds_none, hears_end, idles, is_deaf, is_refused, joins, loses, misses, misses_dial, misses_tick, settles, spills, stops, takes, tears, turns_away, waits, wakes, writes}
 use Rattle.mr_world.proofs.Kept.{reads_on, reads_without}
 use Rattle.mr_turns.specs.Calling.{AreCalls, Breaks, break, call_of, calls_at, client, closings, deliver, dial, FaultsCall, IsByCalls, IsCall, Makes, MakesAll, MakesSome, NodeCall, OpensNone, opens_no_more, step as stepping, TurnsCall}
 
@@ -137,11 +137,13 @@ made_some act outs done rest s m before t are c carries same = (
 
 stopped : (stop : Stop) (a b : NodeState) → Stopping stop a b → AreCalls a (calls_at stop) b
 stopped (stops_at_step link given fresh) a b h = one a b (stepping link given fresh (Err refusal.Stopped)) h.row (λ before. h.sound)
+stopped (stops_at_tick given) a b h = h.1
 stopped stops_at_open a b h = one a b opens_no_more h (stops_sound a b h)
 stopped was_down a b h = h.1
 
 module _ (tells : Bool) (mode : SyncMode) where
   by : (e : Event) (s t : Stage) → Happens tells mode s e t → OneBy e s.node t.node
+  by (wakes now) s t h = record { calls = []; are = ap (λ (z : Stage). z.node) h.is; made = refl }
   by waits s t h = record { calls = []; are = ap (λ (z : Stage). z.node) h.is; made = refl }
   by (joins j l) s t h = record { calls = client l ∷ []; are = one s.node t.node (client l) h.node (opens_sound s.node t.node l h.node); made = refl }
   by turns_away s t h = let c = opens_none s.node t.node h.node in record { calls = c.0; are = c.1; made = c.2 }
@@ -205,5 +207,5 @@ pub turns_call : TurnsCall
 turns_call tells mode s t events run = all tells mode events s t run
 
 pub faults_call : FaultsCall
-faults_call tells mode now unused drawn after why s t broke =
+faults_call tells mode unused drawn after why s t broke =
     both tells mode broke.went.events (broke.last ∷ []) s.node broke.before.node t.node (all tells mode broke.went.events s broke.before broke.went.run) (alone_by tells mode broke.last broke.before t broke.happens)

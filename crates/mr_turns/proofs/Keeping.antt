@@ -1,10 +1,11 @@
 -- That the file is kept, event by event, and what a fault leaves of it.
-use Rattle.std.proofs.Common.{◌≡◌, ◌++◌, ◌≤◌, ◌⊎◌, inl, inr, ℕ, ℤ, zero, suc, List, [], ◌∷◌, Bool, true, Option, None, Some, Result, Ok, Err, take, drop, length, take_all, append-nil, refl, sym, ap, subst, ◌∙◌, arith}
+use Rattle.std.proofs.Common.{◌≡◌, ◌++◌, ◌≤◌, ◌⊎◌, inl, inr, ℕ, zero, suc, List, [], ◌∷◌, Bool, true, Option, None, Some, Result, Ok, Err, take, drop, length, take_all, append-nil, refl, sym, ap, subst, ◌∙◌, arith}
 use Rattle.std.proofs.lemmas.List.{take-append-drop}
 use Rattle.std.specs.FinMap.{empty}
 use Rattle.mr_links.specs.declared.link_id.LinkId.{LinkId}
 use Rattle.mr_entries.specs.Dataset.{Dataset}
 use Rattle.mr_data.specs.declared.given.Given.{Given}
+use Rattle.mr_source.specs.Drawn.{DrawnState}
 use Rattle.mr_groups.specs.Folding.{LeadsByGroups, MakesByGroups}
 use Rattle.mr_groups.proofs.Runs.{leads_nowhere}
 use Rattle.mr_groups.proofs.Going.{leads_further, makes_further}
@@ -31,7 +32,7 @@ use Rattle.mr_loop.specs.declared.fault.LoopFault.TheVariants as fault
 use Rattle.mr_loop.specs.Stage.{Stage, LoopState, lacking}
 use Rattle.mr_loop.specs.Carrying.{Carried, Spilled, Torn}
 use Rattle.mr_loop.specs.Causes.{Act, Calls, Dropped, TurnsOff, at_dial, at_step, at_tick, ended_at}
-use Rattle.mr_loop.specs.Rows.{Event, fault_of, Happens, IsAppended, Run, acts, appends, breaks, closes, fails, finds_none, hears_end, idles, is_deaf, is_refused, joins, loses, misses, misses_dial, misses_tick, settles, spills, stops, takes, tears, turns_away, waits, writes}
+use Rattle.mr_loop.specs.Rows.{Event, fault_of, Happens, IsAppended, Run, acts, appends, breaks, closes, fails, finds_none, hears_end, idles, is_deaf, is_refused, joins, loses, misses, misses_dial, misses_tick, settles, spills, stops, takes, tears, turns_away, waits, wakes, writes}
 use Rattle.mr_loop.specs.Outcomes.{Broke, Fails, Serves, TurnsOn}
 use Rattle.mr_loop.proofs.Carried.{carried_core}
 use Rattle.mr_loop.proofs.Halting.{no_fault}
@@ -206,6 +207,7 @@ appended mode texts s t a k =
 
 module _ (tells : Bool) (mode : SyncMode) where
   kept : (e : Event) (s t : Stage) → fault_of e ≡ None → Happens tells mode s e t → IsKept s → IsKept t
+  kept (wakes now) s t goes_on h k = stay s t (ap (λ (z : Stage). z.told) h.is) (ap (λ (z : Stage). z.own.batch) h.is) (ap (λ (z : Stage). z.node.core.held) h.is) k
   kept waits s t goes_on h k = stay s t (ap (λ (z : Stage). z.told) h.is) (ap (λ (z : Stage). z.own.batch) h.is) (ap (λ (z : Stage). z.node.core.held) h.is) k
   kept (joins j l) s t goes_on h k = stay s t h.file.0 h.batch (ap (λ (z : NodeState). z.core.held) h.node.node) k
   kept turns_away s t goes_on h k = stay s t h.file.0 (batch_of h.own) (held_of (turned_core s.node t.node h.node)) k
@@ -242,11 +244,11 @@ module _ (tells : Bool) (mode : SyncMode) where
 pub turns_keep : TurnsKeep
 turns_keep tells mode s t w k = run_kept tells mode w.events s t w.run k
 
-turns_on_keep : (tells : Bool) (mode : SyncMode) (count : ℕ) (drawn after : Option (List (List ℕ))) (s t : Stage) → TurnsOn tells mode count drawn after s t → IsKept s → IsKept t
+turns_on_keep : (tells : Bool) (mode : SyncMode) (count : ℕ) (drawn after : DrawnState) (s t : Stage) → TurnsOn tells mode count drawn after s t → IsKept s → IsKept t
 turns_on_keep tells mode zero drawn after s t same k = subst IsKept (sym same.0) k
 turns_on_keep tells mode (suc count) drawn after s t on k = turns_keep tells mode on.0 t on.3.tells_of.went (turns_on_keep tells mode count drawn on.1 s on.0 on.2 k)
 
-served : (tells : Bool) (mode : SyncMode) (turns : ℕ) (drawn after : Option (List (List ℕ))) (s t : Stage) → Serves tells mode turns (Ok tt) drawn after s t → IsKept s → IsKept t
+served : (tells : Bool) (mode : SyncMode) (turns : ℕ) (drawn after : DrawnState) (s t : Stage) → Serves tells mode turns (Ok tt) drawn after s t → IsKept s → IsKept t
 served tells mode turns drawn after s t h k =
     let before : IsKept h.before = turns_on_keep tells mode h.count drawn h.between s h.before h.went k in
     elim h.last [
@@ -256,7 +258,7 @@ served tells mode turns drawn after s t h k =
 
 pub turns_leave_whole : TurnsLeaveWhole
 turns_leave_whole tells mode s t none after w = (
-  λ now unused drawn behind turn h. kept_whole t after (turns_keep tells mode s t h.went (whole_kept s none w)),
+  λ unused drawn behind turn h. kept_whole t after (turns_keep tells mode s t h.went (whole_kept s none w)),
   λ turns drawn behind h. kept_whole t after (served tells mode turns drawn behind s t h (whole_kept s none w)),
 )
 
@@ -279,6 +281,7 @@ module _ (act : Act) (outs : OutsState) (s m t : Stage) (calls : Calls act s m o
 
 module _ (tells : Bool) (mode : SyncMode) (why : LoopFault) where
   torn_by : (e : Event) (s t : Stage) → fault_of e ≡ Some why → Happens tells mode s e t → IsKept s → IsTorn t
+  torn_by (wakes now) s t is h k = absurd (none_some why is)
   torn_by waits s t is h k = absurd (none_some why is)
   torn_by (joins j l) s t is h k = absurd (none_some why is)
   torn_by turns_away s t is h k = absurd (none_some why is)
@@ -313,19 +316,19 @@ module _ (tells : Bool) (mode : SyncMode) (why : LoopFault) where
   torn_by (settles hurries) s t is h k = absurd (none_some why is)
   torn_by (stops stop) s t is h k = whole_torn t k.file k.filed (h.file.0 ∙ k.told) k.made
 
-  broke_torn : (now : ℤ) (unused : List (List ℕ)) (drawn after : Option (List (List ℕ))) (s t : Stage) → IsKept s → Broke tells mode now unused drawn after why s t → IsTorn t
-  broke_torn now unused drawn after s t k b = torn_by b.last b.before t b.told b.happens (turns_keep tells mode s b.before b.went k)
+  broke_torn : (unused : List (List ℕ)) (drawn after : DrawnState) (s t : Stage) → IsKept s → Broke tells mode unused drawn after why s t → IsTorn t
+  broke_torn unused drawn after s t k b = torn_by b.last b.before t b.told b.happens (turns_keep tells mode s b.before b.went k)
 
 torn_same : (s t : Stage) → t.told ≡ s.told → IsTorn s → IsTorn t
 torn_same s t same i = record { front = i.front; torn = i.torn; told = same ∙ i.told; filed = i.filed; made = i.made; more = i.more; next = i.next; leads = i.leads }
 
-fault_tears : (tells : Bool) (mode : SyncMode) (why : LoopFault) (now : ℤ) (unused : List (List ℕ)) (drawn after : Option (List (List ℕ))) (s t : Stage) → IsKept s → Fails tells mode now unused drawn after why s t → IsTorn t
-fault_tears tells mode fault.Listener now unused drawn after s t k c = whole_torn t k.file k.filed (ap (λ (z : Stage). z.told) c.is ∙ k.told) k.made
-fault_tears tells mode fault.File now unused drawn after s t k b = torn_same b.behind t (ap (λ (z : Stage). z.told) b.stopped.is) (broke_torn tells mode fault.File now unused drawn after s b.behind k b.broke)
-fault_tears tells mode fault.Stopped now unused drawn after s t k b = torn_same b.behind t (ap (λ (z : Stage). z.told) b.stopped.is) (broke_torn tells mode fault.Stopped now unused drawn after s b.behind k b.broke)
+fault_tears : (tells : Bool) (mode : SyncMode) (why : LoopFault) (unused : List (List ℕ)) (drawn after : DrawnState) (s t : Stage) → IsKept s → Fails tells mode unused drawn after why s t → IsTorn t
+fault_tears tells mode fault.Listener unused drawn after s t k c = whole_torn t k.file k.filed (ap (λ (z : Stage). z.told) c.is ∙ k.told) k.made
+fault_tears tells mode fault.File unused drawn after s t k b = torn_same b.behind t (ap (λ (z : Stage). z.told) b.stopped.is) (broke_torn tells mode fault.File unused drawn after s b.behind k b.broke)
+fault_tears tells mode fault.Stopped unused drawn after s t k b = torn_same b.behind t (ap (λ (z : Stage). z.told) b.stopped.is) (broke_torn tells mode fault.Stopped unused drawn after s b.behind k b.broke)
 
 pub faults_tear : FaultsTear
 faults_tear tells mode why s t k = (
-  λ now unused drawn after. fault_tears tells mode why now unused drawn after s t k,
-  λ turns drawn after h. fault_tears tells mode why h.last.1 [] h.between after h.before t (turns_on_keep tells mode h.count drawn h.between s h.before h.went k) h.last.2,
+  λ unused drawn after. fault_tears tells mode why unused drawn after s t k,
+  λ turns drawn after h. fault_tears tells mode why [] h.between after h.before t (turns_on_keep tells mode h.count drawn h.between s h.before h.went k) h.last.1,
 )

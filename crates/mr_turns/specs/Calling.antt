@@ -1,7 +1,8 @@
 -- The calls that a turn makes on its node: each is one of those that are a World's events, by the same row.
-use Rattle.std.specs.Prelude.{◌≡◌, ◌++◌, ◌⊎◌, ℕ, ℤ, List, [], ◌∷◌, Bool, Option, Result, Ok, Err, length}
+use Rattle.std.specs.Prelude.{◌≡◌, ◌++◌, ◌⊎◌, ℕ, List, [], ◌∷◌, Bool, Result, Ok, Err, length}
 use Rattle.mr_links.specs.declared.link_id.LinkId.{LinkId}
 use Rattle.mr_data.specs.declared.given.Given.{Given}
+use Rattle.mr_source.specs.Drawn.{DrawnState}
 use Rattle.mr_file.specs.declared.sync_mode.SyncMode.{SyncMode}
 use Rattle.mr_outs.specs.Outs.{OutState, OutsState, grow, append, replace, send, close, use_id, follow, halt, outs_of}
 use Rattle.mr_rows.specs.State.{NodeState}
@@ -16,9 +17,9 @@ use Rattle.mr_node.specs.declared.step.Step.{Step}
 use Rattle.mr_node.specs.declared.step.Step.TheVariants as answer
 use Rattle.mr_loop.specs.declared.fault.LoopFault.{LoopFault}
 use Rattle.mr_loop.specs.Stage.{Stage}
-use Rattle.mr_loop.specs.Causes.{Act, Stop, at_dial, at_step, at_tick, stops_at_open, stops_at_step, was_down}
+use Rattle.mr_loop.specs.Causes.{Act, Stop, at_dial, at_step, at_tick, stops_at_open, stops_at_step, stops_at_tick, was_down}
 use Rattle.mr_loop.specs.Outcomes.{Broke}
-use Rattle.mr_loop.specs.Rows.{Event, Run, acts, appends, breaks, closes, fails, finds_none, hears_end, idles, is_deaf, is_refused, joins, loses, misses, misses_dial, misses_tick, settles, spills, stops, takes, tears, turns_away, waits, writes}
+use Rattle.mr_loop.specs.Rows.{Event, Run, acts, appends, breaks, closes, fails, finds_none, hears_end, idles, is_deaf, is_refused, joins, loses, misses, misses_dial, misses_tick, settles, spills, stops, takes, tears, turns_away, waits, wakes, writes}
 
 -- a call on a node that may change it, and what it was answered
 pub data NodeCall : Type 0 where
@@ -78,6 +79,7 @@ pub record MakesSome (act : Act) (outs : OutsState) (calls : List NodeCall) : Ty
 -- where the node answers that it is stopped
 abbrev pub calls_at : Stop → List NodeCall
 calls_at (stops_at_step link given fresh) = step link given fresh (Err refusal.Stopped) ∷ []
+calls_at (stops_at_tick given) = []
 calls_at stops_at_open = opens_no_more ∷ []
 calls_at was_down = []
 
@@ -93,6 +95,7 @@ pub data OpensNone (calls : List NodeCall) : Type 0 where
   dial_and_break : (link : LinkId) (outs : OutsState) → calls ≡ dial link outs ∷ break link ∷ [] → OpensNone calls
 
 abbrev pub Makes : Event → List NodeCall → Type 0
+Makes (wakes now) calls = calls ≡ []
 Makes waits calls = calls ≡ []
 Makes (joins socket link) calls = calls ≡ client link ∷ []
 Makes turns_away calls = OpensNone calls
@@ -135,5 +138,5 @@ TurnsCall = (tells : Bool) (mode : SyncMode) (s t : Stage) (events : List Event)
 
 -- .. also those of a turn that ends for a fault, the call of its last event among them
 abbrev pub FaultsCall : Type 0
-FaultsCall = (tells : Bool) (mode : SyncMode) (now : ℤ) (unused : List (List ℕ)) (drawn after : Option (List (List ℕ))) (why : LoopFault) (s t : Stage)
-    → (broke : Broke tells mode now unused drawn after why s t) → IsByCalls (broke.went.events ++ broke.last ∷ []) s.node t.node
+FaultsCall = (tells : Bool) (mode : SyncMode) (unused : List (List ℕ)) (drawn after : DrawnState) (why : LoopFault) (s t : Stage)
+    → (broke : Broke tells mode unused drawn after why s t) → IsByCalls (broke.went.events ++ broke.last ∷ []) s.node t.node

@@ -1,7 +1,8 @@
 -- What the file says of its node in the event loop: within turns, between them, and behind a fault.
-use Rattle.std.specs.Prelude.{◌≡◌, ◌++◌, ℕ, ℤ, List, [], Bool, Option, Some, Ok, Err, length}
+use Rattle.std.specs.Prelude.{◌≡◌, ◌++◌, ℕ, List, [], Bool, Some, Ok, Err, length}
 use Rattle.mr_entries.specs.Dataset.{Dataset}
 use Rattle.mr_groups.specs.Folding.{LeadsByGroups, LoadsGroups, MakesByGroups}
+use Rattle.mr_source.specs.Drawn.{DrawnState}
 use Rattle.mr_file.specs.declared.sync_mode.SyncMode.{SyncMode}
 use Rattle.mr_loop.specs.declared.fault.LoopFault.{LoopFault}
 use Rattle.mr_loop.specs.declared.told.Turn.{Turn}
@@ -48,11 +49,11 @@ TurnsKeep = (tells : Bool) (mode : SyncMode) (s t : Stage) → Went tells mode s
 -- behind a turn that went well, and behind turns one after another
 abbrev pub TurnsLeaveWhole : Type 0
 TurnsLeaveWhole = (tells : Bool) (mode : SyncMode) (s t : Stage) → s.own.batch ≡ [] → t.own.batch ≡ [] → IsWhole s
-    → ((now : ℤ) (unused : List (List ℕ)) (drawn after : Option (List (List ℕ))) (turn : Turn) → Turns tells mode now unused drawn after (Ok turn) s t → IsWhole t)
-    × ((turns : ℕ) (drawn after : Option (List (List ℕ))) → Serves tells mode turns (Ok tt) drawn after s t → IsWhole t)
+    → ((unused : List (List ℕ)) (drawn after : DrawnState) (turn : Turn) → Turns tells mode unused drawn after (Ok turn) s t → IsWhole t)
+    × ((turns : ℕ) (drawn after : DrawnState) → Serves tells mode turns (Ok tt) drawn after s t → IsWhole t)
 
 -- ---- behind a fault, of one turn or of the last of some
 abbrev pub FaultsTear : Type 0
 FaultsTear = (tells : Bool) (mode : SyncMode) (why : LoopFault) (s t : Stage) → IsKept s
-    → ((now : ℤ) (unused : List (List ℕ)) (drawn after : Option (List (List ℕ))) → Fails tells mode now unused drawn after why s t → IsTorn t)
-    × ((turns : ℕ) (drawn after : Option (List (List ℕ))) → Serves tells mode turns (Err why) drawn after s t → IsTorn t)
+    → ((unused : List (List ℕ)) (drawn after : DrawnState) → Fails tells mode unused drawn after why s t → IsTorn t)
+    × ((turns : ℕ) (drawn after : DrawnState) → Serves tells mode turns (Err why) drawn after s t → IsTorn t)
