@@ -1,7 +1,8 @@
 // What the nodes are given from outside.
-ghost use Rattle.std.specs.Prelude.{◌≡◌, ◌≢◌, ◌≤◌, None, pos};
+ghost use Rattle.std.specs.Prelude.{◌≡◌, ◌≢◌, ◌≤◌, ◌≤ℤ◌, pos};
 ghost use Rattle.mr_repl.specs.ReplId.{id_of_number, zero_id};
 ghost use Rattle.mr_data.specs.Given.{IsMoment};
+ghost use Rattle.mr_source.specs.Drawn.{drawn_at};
 ghost use Rattle.mr_trio.specs.Numbers.{plus};
 
 use mr_repl::ReplId;
@@ -38,15 +39,14 @@ impl NumberedSource {
 }
 
 impl Source for NumberedSource {
-    ghost clock = { λ _. pos 0 };
-
     /// In the next turn ids are drawn again that a turn didn't use: it tells none.
-    ghost drawn = { λ _. None };
+    ghost drawn = { λ _. drawn_at (pos 0) };
 
     fn now(&mut self) -> i64
         ensures moment { IsMoment result }
         ensures zero { result ≡ pos 0 }
-        ensures clock { pos 0 ≡ result }
+        ensures forward { pos 0 ≤ℤ result }
+        ensures drawn { drawn_at (pos 0) ≡ drawn_at result }
         ensures same { self.new ≡ self.old }
     {
         0
