@@ -82,6 +82,7 @@ impl Host {
             return tell(out, "over");
         }
         self.over = true;
+        self.source.begin();
         match turn(
             &mut self.node,
             &mut self.links,
@@ -103,6 +104,7 @@ impl Host {
             return tell(out, "over");
         }
         self.over = true;
+        self.source.begin();
         match serve(
             &mut self.node,
             &mut self.links,

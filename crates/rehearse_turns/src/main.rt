@@ -12,7 +12,8 @@
 //! | `reads`, with BYTES, `not-ready`, `end` and `failed` | what reads of the next link come to |
 //! | `writes`, with COUNT (at most so many bytes are moved), `all`, `not-ready` and `failed` | what its writes come to |
 //! | `accepts`, with `link`, `not-ready` and `failed`; `connects`, with `link` and `failed` | what accepts and connects come to |
-//! | `moments MILLIS ..`, `words NUMBER ..`, `ids ID ..` | what the clock says, in each turn once, the random words, and fresh ids, of which each turn draws one, and another once one was used |
+//! | `moments MILLIS ..`, `words NUMBER ..`, `ids ID ..` | what the clock says as a `turn`, or a `serve`, begins, the random words, and fresh ids, of which each turn draws one, and another once one was used |
+//! | `passes MILLIS ..` | how much time passes before the clock is asked again, as it is for each step and each tick |
 //! | `held BYTES`, `sync` with `always` or `no` | what the file has as the node starts, and whether its appends are synced: they are where nothing is said |
 //! | `fails COUNT` | which call on the file fails, counted from 1. The first are those by which it is read as the node starts: one where it is empty, and two of few bytes |
 //! | `short COUNT` | how many bytes a write to it appends at most |

@@ -70,6 +70,7 @@ impl Stage {
             "accepts" => self.wire.list_accept(word),
             "connects" => self.wire.list_connect(word),
             "moments" => self.source.list_moment(word),
+            "passes" => self.source.list_passing(word),
             "words" => self.source.list_word(word),
             "ids" => self.source.list_id(word),
             _ => self.describe(name, word),
