@@ -5,7 +5,7 @@ import unittest
 
 from tests.support.handshake import GREETED, GREETS, NOTHING_TO_CONTINUE, announces, asks_from, continues
 from tests.support.program import request
-from tests.support.replies import BULK_LENGTH, CHAINED, COUNT, OK, PONG, QUEUED, QUOTES, READONLY, STARTED, array, array_of, bulk, no_dollar, number
+from tests.support.replies import BULK_LENGTH, CHAINED, COUNT, NIL, OK, PONG, QUEUED, QUOTES, READONLY, STARTED, array, array_of, bulk, no_dollar, number
 from tests.support.requests import EXEC, GET, LEAD, MULTI, PAIR, PING, SET, SET_A, SET_B, SET_W, SET_X, framed
 from tests.support.server import UNREAD
 from tests.support.turns import ADDRESS, ALL, ENDS, FAILED, FAILS, NOT_READY, OBEY, Followed, Peer, Playing, counts, followed, peer
@@ -358,6 +358,35 @@ class Replicas(Playing):
         deletes = b"".join(request("DEL", it) for it in keys)
         self.assertEqual([it.links.accepted[0].written for it in turns], [announces("a", 0, held), announces("a", 0, held) + deletes])
         self.assertEqual(loop.file().held, held + deletes)
+
+
+class Moments(Playing):
+    """The clock moves while a turn lasts."""
+
+    def test_each_step_has_the_time_at_which_it_is_made(self):
+        """A second passes within a turn, before a lock is taken in it for less."""
+        asks = request("SET", "lock", "mine", "NX", "PX", "697") + request("PEXPIRETIME", "lock")
+        asked = request("BGREWRITEAOF") + asks
+        for passes, moment in ([], 1697), ([0, 1000], 2697), ([0, 0, 696], 1697), ([300, 700, 5], 2697):
+            turns, _ = self.plays(2, accepts=[peer(asked, asks)], moments=[1000, 2000], passes=passes)
+            self.assertEqual(turns[0].links.accepted[0].written, STARTED + OK + number(moment))
+            # in the next turn it is taken again, unless it is still held
+            again = turns[1].links.accepted[0].written[len(turns[0].links.accepted[0].written) :]
+            self.assertEqual(again, (OK if moment == 1697 else NIL) + number(2697))
+
+    def test_each_tick_has_the_time_at_which_it_is_made(self):
+        """A key that expires between two ticks of a turn goes in it."""
+        keys = ["k%02d" % it for it in range(70)]
+        held = b"".join(request("SET", it, "v") + request("PEXPIREAT", it, "5") for it in keys) + request("SET", "late", "v") + request("PEXPIREAT", "late", "6")
+        for passes, gone in ([], keys), ([0, 0, 0, 1], [*keys, "late"]):
+            turns, loop = self.plays(2, accepts=[peer(NOTHING_TO_CONTINUE)], held=held, moments=[4, 5], passes=passes)
+            self.assertEqual(loop.file().held, held + b"".join(request("DEL", it) for it in gone))
+
+    def test_no_moment_goes_back(self):
+        """Not from turn to turn either."""
+        asks = request("SET", "k", "v", "PX", "1000") + request("PEXPIRETIME", "k")
+        turns, _ = self.plays(3, accepts=[peer(asks, asks, asks)], moments=[5000, 4000, 5001], passes=[0, 0, 7, 0, 0, 0])
+        self.assertEqual(turns[-1].links.accepted[0].written, (OK + number(6000)) + (OK + number(6007)) + (OK + number(6007)))
 
 
 class Following(Playing):
