@@ -5,7 +5,6 @@ use Rattle.mr_data.specs.declared.given.Given.{Given}
 use Rattle.mr_outs.specs.Outs.{OutsState}
 use Rattle.mr_source.specs.Drawn.{DrawnState, with_id, with_moment, with_more}
 use Rattle.mr_loop.specs.declared.followed.News.{News}
-use Rattle.mr_loop.specs.declared.told.Turn.{Turn}
 use Rattle.mr_loop.specs.Causes.{Act, at_step, at_tick, at_dial, Stop, stops_at_step, stops_at_tick, stops_at_open, was_down}
 use Rattle.mr_loop.specs.Rows.{Event, acts, idles, is_refused, spills, stops, tears, wakes}
 use Rattle.mr_loop.specs.Giving.{AllGiven, AreAmong, IsGiven, IsGivenAct, IsGivenStep, IsGivenStop, Rises, Supplies, TakesEachOnce, listed, moments_by, moments_in, taken_by, taken_in}

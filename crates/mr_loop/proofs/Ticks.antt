@@ -33,7 +33,7 @@ use Rattle.mr_loop.specs.Counting.{IsTickDue, MomentState, Passes, Renewed, most
 use Rattle.mr_loop.specs.Going.{PassesAs, PassesOn}
 use Rattle.mr_loop.specs.Hosts.{moment_in, stage_in}
 use Rattle.mr_loop.specs.Outcomes.{HasBroken}
-use Rattle.mr_loop.specs.Rows.{Event, MissesTick, acts, misses_tick}
+use Rattle.mr_loop.specs.Rows.{MissesTick, acts, misses_tick}
 use Rattle.mr_loop.proofs.Carried.{carried_core}
 use Rattle.mr_loop.proofs.Runs.{broke_moded, counts_broke, counts_event, counts_none, counts_on, gives_none, sum_append}
 use Rattle.mr_loop.proofs.Supplying.{renewed_none, tells_one}

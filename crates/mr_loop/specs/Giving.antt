@@ -1,6 +1,5 @@
 -- What a source gives in a turn: to each call on the node a moment of its own, and to each step an id that no call took before.
 use Rattle.std.specs.Prelude.{◌≡◌, ◌⊎◌, ◌≤ℤ◌, ℕ, ℤ, List, [], ◌∷◌, ◌++◌, Option, Some, None}
-use Rattle.mr_data.specs.declared.given.Given.{Given}
 use Rattle.mr_source.specs.Drawn.{DrawnState, with_more}
 use Rattle.mr_loop.specs.Causes.{Act, at_step, at_tick, at_dial, Stop, stops_at_step, stops_at_tick, stops_at_open, was_down}
 use Rattle.mr_loop.specs.Rows.{Event, acts, idles, is_refused, misses_tick, spills, stops, tears, wakes}

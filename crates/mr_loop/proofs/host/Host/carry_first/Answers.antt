@@ -1,4 +1,4 @@
-use Rattle.std.proofs.Common.{[], OnErr, OnOk, ap, sym, ◌∙◌}
+use Rattle.std.proofs.Common.{[], ap, sym, ◌∙◌}
 use Rattle.mr_outs.specs.Outs.{OutsState, outs_of}
 use Rattle.mr_loop.specs.Hosts.{stage_in}
 use Rattle.mr_loop.proofs.Outs.{first_filed}
