@@ -43,7 +43,7 @@ use Rattle.mr_turns.proofs.Unseen.{goes_unseen}
 -- ---- what comes of a call
 pub calls_are_events : CallsAreEvents
 calls_are_events w n s call b is running sound c (IsMeant.as_event e named) =
-    let t = named_taken w n s b is running sound call e c named in record { world = t.world; becomes = Becomes.by_event e named t.taken; stands = t.stands }
+    let t = named_taken w n s b is running sound call e c named in record { world = t.world; becomes = Becomes.by_event e named t.taken t.stands; stands = t.stands }
 calls_are_events w n s call b is running sound c (IsMeant.as_none none) = record {
   world = put_node w n s b;
   becomes = Becomes.unseen none refl;
@@ -84,7 +84,7 @@ module _ (w v : WorldState) (is : IsWorld w) where
 
   served : Serves w v → Happens w v × IsWorld v
   served m = elim m.becomes [
-    | Becomes.by_event e named c ↦ (came_of e (outcome_of m.call) c, call_keeps m.number m.slot m.call e named c)
+    | Becomes.by_event e named c stands ↦ (came_of e (outcome_of m.call) c, call_keeps m.number m.slot m.call e named c)
     | Becomes.unseen none same ↦ subst (λ z. Happens w z × IsWorld z) (sym same) (goes_unseen w m.number m.slot is m.running m.call m.node m.sound m.is none)
   ]
 

@@ -107,9 +107,9 @@ pub record Stands (w : WorldState) (n : ℕ) (a : NodeState) : Type 0 where
   pub there : slice_get w.slots n ≡ Some slot
   pub is : slot.node ≡ a
 
--- The World goes on as the call says: by the event, as its rows have it; or with the node alone another, in what no one sees.
+-- The World goes on as the call says: by the event, as its rows have it, and with the node that the call leaves; or with the node alone another, in what no one sees.
 pub data Becomes (w : WorldState) (n : ℕ) (s : Slot) (call : NodeCall) (b : NodeState) (v : WorldState) : Type 0 where
-  by_event : (e : Event) → IsNamed w n s call e → EventCall w e v (outcome_of call) → Becomes w n s call b v
+  by_event : (e : Event) → IsNamed w n s call e → EventCall w e v (outcome_of call) → Stands v n b → Becomes w n s call b v
   unseen : IsUnseen s.node call → v ≡ put_node w n s b → Becomes w n s call b v
 
 -- The call is an event of this World, or none.
@@ -161,8 +161,8 @@ Course w (v ∷ vs) = Moves w v × Course v vs
 abbrev pub ServersKeepWorlds : Type 0
 ServersKeepWorlds = (w v : WorldState) → IsWorld w → (Serves w v ⊎ Halts w v) → Happens w v × IsWorld v
 
--- **Servers never differ silently.** However the nodes of a World are run, by its events or by servers' turns: at any two moments nodes that show one id and one offset hold one
--- dataset.
+-- **In one World, servers' calls never make nodes differ silently.** However the nodes of a World are run, by its events or by calls of servers that are events there: at any two
+-- moments nodes that show one id and one offset hold one dataset. That there is such a World beside several servers isn't said.
 abbrev pub ServersNeverDiffer : Type 0
 ServersNeverDiffer = (worlds : List WorldState) → Course no_world worlds → (j k : ℕ) (u v : WorldState) → slice_get (no_world ∷ worlds) j ≡ Some u → slice_get (no_world ∷ worlds) k ≡ Some v
     → (n m : ℕ) (id : List ℕ) (offset : ℕ) (x y : Dataset) → Shows u n id offset x → Shows v m id offset y → x ≡ y

@@ -21,7 +21,8 @@ pub fn servers_keep_worlds()
     ensures { ServersKeepWorlds }
 {}
 
-/// **Nodes that servers run never differ silently**: at any two moments those that show the same replication id and offset hold the same dataset.
+/// **In one World, calls of servers never make nodes differ silently**: over Worlds that follow one another by events and by such calls, nodes that show the same
+/// replication id and offset hold the same dataset, at any two moments. That there is such a World beside several servers is said nowhere yet.
 pub fn servers_never_differ()
     ensures { ServersNeverDiffer }
 {}
