@@ -15,7 +15,7 @@ EXCUSED = {
     "functions": {
         "rehearse_values": 201,  # a program for tests: calls on each kind of value
         "mr_order": 153,  # one structure in levels, and its searches
-        "minired": 132,  # what a program does with what it is handed, of four kinds
+        "minired": 137,  # what a program does with what it is handed, of four kinds
         "mr_value": 118,  # lists, hashes, sets and their bytes: kinds of one value
         "mr_node": 115,  # each call on a node, by the one invariant below it
         "mr_loop": 118,  # a turn, whose steps share one clause

@@ -12,11 +12,15 @@ from tests.support.program import LATE, request
 from tests.support.replicas import PIECE
 from tests.support.replicating import Replicating, leads
 from tests.support.replies import OK, PONG, bulk
+from tests.support.requests import GET
 from tests.support.server import HOST, MIB
 
 # for how long a peer may be silent here, in seconds: the least that may be asked for
 TIMEOUT = 11
 HUNG_UP = b"link hung up: silent for %d s" % TIMEOUT
+# for how long a client may be idle here
+IDLE = 1
+IDLE_TOLD = re.compile(rb"clients hung up that were idle for %d s: (\d+)" % IDLE)
 OF_REPLICAS = re.compile(rb"replicas hung up that were silent or read nothing for %d s: (\d+)" % TIMEOUT)
 
 
@@ -176,6 +180,39 @@ class Replicas(Silent):
         self.assertEqual(master.asks("SET", "k", "v"), OK)
         self.caught_up(master, replica)
         self.assertEqual(self.hung_up(master), 2)
+
+
+class Clients(Silent):
+    def test_idle_clients(self):
+        """With --timeout a client is closed that neither sends nor takes a byte. One that does is not, nor a replica, nor the link to the master."""
+        master = self.node(idle=IDLE)
+        replica = self.node(follows=master.port, idle=IDLE)
+        self.caught_up(master, replica)
+        idle, busy = [self.client(master) for _ in range(5)], self.client(master)
+        begun = time.monotonic()
+        while time.monotonic() < begun + 4 * IDLE:
+            self.assertEqual(busy.asks("PING"), PONG)
+            time.sleep(IDLE / 4)
+        for link in idle:
+            self.assertEqual(link.rest(), b"")
+        for node in (master, replica):
+            node.link.close()
+            node.link = None
+        self.assertEqual(master.asks("SET", "k", "v"), OK)
+        self.caught_up(master, replica)
+        self.assertRegex(self.told(replica, master.port)[-1], rb"\Ain its stream at offset \d+\Z")
+        # the five, and the client of the test itself
+        self.assertEqual(sum(int(found[1]) for found in map(IDLE_TOLD.fullmatch, master.told()) if found), 6)
+
+    def test_who_takes_a_large_reply_slowly_is_not_idle(self):
+        it, value = self.node(idle=IDLE), bytes(16 * MIB)
+        slow = self.client(it, room=1 << 16)
+        self.assertEqual(slow.asks("SET", "k", value), OK)
+        slow.send(GET)
+        for _ in range(4 * 4 * IDLE):
+            slow.more()
+            time.sleep(IDLE / 4)
+        self.assertEqual(slow.reply(), bulk(value.decode()))
 
 
 if __name__ == "__main__":

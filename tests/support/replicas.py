@@ -71,8 +71,8 @@ class Look:
 class Node(server.Server):
     """A server that may begin as a replica of the node at a port, and a client of it."""
 
-    def __init__(self, follows=None, backlog=None, timeout=None, **how):
-        self.given = {"--replicaof": follows and f"{HOST}:{follows}", "--backlog": backlog, "--repl-timeout": timeout}
+    def __init__(self, follows=None, backlog=None, timeout=None, idle=None, **how):
+        self.given = {"--replicaof": follows and f"{HOST}:{follows}", "--backlog": backlog, "--repl-timeout": timeout, "--timeout": idle}
         self.link = None
         super().__init__(**how)
 

@@ -17,8 +17,10 @@ const PART: &[u8] = b"+CONTINUE ";
 pub enum Peer {
     /// It was answered so many lines and nothing else: it may be a replica that greets.
     Unknown(u32),
-    /// A client, which may say nothing and take nothing for as long as it likes.
+    /// A client.
     Client,
+    /// Nobody is awaited: the link was closed here, or hung up.
+    Gone,
     /// The master, and since when it has said nothing.
     Master(Duration),
     /// A replica whose stream was announced to it.
@@ -37,7 +39,7 @@ impl Peer {
             return self;
         }
         match self {
-            Peer::Unknown(_) | Peer::Client => self,
+            Peer::Unknown(_) | Peer::Client | Peer::Gone => self,
             Peer::Master(_) => Peer::Master(now),
             Peer::Replica {
                 unheard: _,
@@ -53,10 +55,10 @@ impl Peer {
     pub fn written(self, waiting: &[u8], moved: Moved, now: Duration) -> Peer {
         let known = match self {
             Peer::Unknown(lines) => known(lines, waiting),
-            Peer::Client | Peer::Master(_) | Peer::Replica { .. } => self,
+            Peer::Client | Peer::Gone | Peer::Master(_) | Peer::Replica { .. } => self,
         };
         match known {
-            Peer::Unknown(_) | Peer::Client | Peer::Master(_) => known,
+            Peer::Unknown(_) | Peer::Client | Peer::Gone | Peer::Master(_) => known,
             Peer::Replica { unheard, untaken } => Peer::Replica {
                 unheard,
                 untaken: untaken_behind(untaken, waiting, moved, now),
@@ -67,11 +69,19 @@ impl Peer {
     /// Whether it has been silent for so long: a master that says nothing, or a replica that does, or takes nothing of what waits.
     pub fn is_silent(self, now: Duration, longest: Duration) -> bool {
         match self {
-            Peer::Unknown(_) | Peer::Client => false,
+            Peer::Unknown(_) | Peer::Client | Peer::Gone => false,
             Peer::Master(unheard) => is_past(Some(unheard), now, longest),
             Peer::Replica { unheard, untaken } => {
                 is_past(unheard, now, longest) || is_past(untaken, now, longest)
             }
+        }
+    }
+
+    /// Whether it is a client, as far as is known.
+    pub fn is_client(self) -> bool {
+        match self {
+            Peer::Unknown(_) | Peer::Client => true,
+            Peer::Gone | Peer::Master(_) | Peer::Replica { .. } => false,
         }
     }
 }
@@ -124,7 +134,7 @@ fn untaken_behind(
 }
 
 /// How many bytes a read or a write moved.
-fn count_of(moved: Moved) -> usize {
+pub fn count_of(moved: Moved) -> usize {
     match moved {
         Moved::Bytes(count) => count,
         Moved::NotReady | Moved::End | Moved::Failed => 0,

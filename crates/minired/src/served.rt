@@ -154,7 +154,7 @@ fn listening(rt: &HostRuntime, options: &ServeOptions<'_>) -> Result<ToldWire, F
         Ok(mut wire) => {
             wire.probe_after(options.keepalive);
             wire.take_at_most(room_of(rt, options.most_clients));
-            Ok(ToldWire::new(of_wire, wire, options.timeout))
+            Ok(ToldWire::new(of_wire, wire, options.timeout, options.idle_timeout))
         }
         Err(error) => Err(Failure::Listen(options.port, error)),
     }

@@ -1,5 +1,5 @@
-//! Which peers of replication have fallen silent.
-use crate::peer::Peer;
+//! Which peers have been silent for too long.
+use crate::peer::{Peer, count_of};
 use mr_links::LinkId;
 use mr_wire::{Failed, Moved};
 use std::alloc::Global;
@@ -12,11 +12,30 @@ const LONGEST_STEP: u64 = 100;
 /// The peers are looked at once in so many seconds.
 const LOOKED_AFTER: u64 = 1;
 
-/// The link that was opened last at a place, and whom it leads to.
+/// The link that was opened last at a place, whom it leads to, and when bytes came or went there last.
 #[derive(Clone, Copy)]
 struct Place {
     link: LinkId,
     peer: Peer,
+    moved: Duration,
+}
+
+/// A link whose peer has been silent for too long.
+#[derive(Clone, Copy)]
+pub enum Silent {
+    /// A master's or a replica's.
+    Replication(LinkId),
+    /// A client's, which neither sent nor took a byte.
+    Idle(LinkId),
+}
+
+impl Silent {
+    /// The link.
+    pub fn link(self) -> LinkId {
+        match self {
+            Silent::Replication(link) | Silent::Idle(link) => link,
+        }
+    }
 }
 
 /// The peers on a wire's links, each at its link's place, and a clock that goes on from wait to wait. What the system's time is, and
@@ -25,17 +44,24 @@ struct Place {
 pub struct Silence {
     places: Vec<Place>,
     longest: Duration,
+    /// How long a client may be idle, where there is a limit.
+    idle: Option<Duration>,
     waited: Option<Instant>,
     now: Duration,
     looked: Duration,
 }
 
 impl Silence {
-    /// No peers. They may be silent for so many seconds.
-    pub fn new(alloc: Global, seconds: u64) -> Silence {
+    /// No peers. Those of replication may be silent for so many seconds, and clients for so many, or for ever where that is 0.
+    pub fn new(alloc: Global, replication: u64, clients: u64) -> Silence {
         Silence {
             places: Vec::new(alloc),
-            longest: Duration::from_secs(seconds),
+            longest: Duration::from_secs(replication),
+            idle: if clients > 0 {
+                Some(Duration::from_secs(clients))
+            } else {
+                None
+            },
             waited: None,
             now: Duration::ZERO,
             looked: Duration::ZERO,
@@ -72,13 +98,17 @@ impl Silence {
     }
 
     /// The link at a place, if its peer has been silent for too long. That is told once.
-    pub fn take_silent(&mut self, index: usize) -> Option<LinkId> {
+    pub fn take_silent(&mut self, index: usize) -> Option<Silent> {
         let place = self.places.get_mut(index)?;
-        if !place.peer.is_silent(self.now, self.longest) {
+        let silent = if place.peer.is_silent(self.now, self.longest) {
+            Silent::Replication(place.link)
+        } else if is_idle(*place, self.now, self.idle) {
+            Silent::Idle(place.link)
+        } else {
             return None;
-        }
-        place.peer = Peer::Client;
-        Some(place.link)
+        };
+        place.peer = Peer::Gone;
+        Some(silent)
     }
 
     /// A link that a peer opened, if there is one.
@@ -101,6 +131,9 @@ impl Silence {
             && place.link == link
         {
             place.peer = place.peer.read(moved, self.now);
+            if count_of(moved) > 0 {
+                place.moved = self.now;
+            }
         }
     }
 
@@ -110,6 +143,9 @@ impl Silence {
             && place.link == link
         {
             place.peer = place.peer.written(waiting, moved, self.now);
+            if count_of(moved) > 0 {
+                place.moved = self.now;
+            }
         }
     }
 
@@ -118,13 +154,14 @@ impl Silence {
         if let Some(place) = self.places.get_mut(link.index)
             && place.link == link
         {
-            place.peer = Peer::Client;
+            place.peer = Peer::Gone;
         }
     }
 
     /// A link was opened. Where memory is lacking its peer may be silent for ever.
     fn begin(&mut self, link: LinkId, peer: Peer) {
-        let opened = Place { link, peer };
+        let moved = self.now;
+        let opened = Place { link, peer, moved };
         for _ in self.places.len()..=link.index {
             if self.places.push(opened).is_err() {
                 return;
@@ -133,6 +170,14 @@ impl Silence {
         if let Some(place) = self.places.get_mut(link.index) {
             *place = opened;
         }
+    }
+}
+
+/// Whether a client has neither sent nor taken a byte for so long, where that is too long.
+fn is_idle(place: Place, now: Duration, longest: Option<Duration>) -> bool {
+    match longest {
+        Some(longest) => { place.peer.is_client() && now.saturating_sub(place.moved) >= longest }
+        None => false,
     }
 }
 

@@ -4,7 +4,7 @@ ghost use Rattle.mr_wire.specs.Wire.{wire_of};
 
 use crate::master_link::MasterLink;
 use crate::notice::{Seldom, tell};
-use crate::silence::Silence;
+use crate::silence::{Silence, Silent};
 use mr_links::LinkId;
 use mr_wire::{Failed, Moved, SocketWire, Wire};
 
@@ -12,7 +12,8 @@ use mr_wire::{Failed, Moved, SocketWire, Wire};
 const LACK: &str = "no more descriptors: links wait to be accepted";
 
 /// A wire over the system's sockets. Where it has no descriptor for a link that a peer opened, it says so on standard error, once a
-/// second at most. It hangs up on a master and on replicas that have been silent for too long, and says how many replicas these were.
+/// second at most. It hangs up on a master and on replicas that have been silent for too long, and on clients that are idle where there is a
+/// limit, and says how many replicas and how many clients these were.
 /// What is behind it then finds the end of the link, as where the peer had closed it.
 #[derive(Drop)]
 pub struct ToldWire {
@@ -21,6 +22,8 @@ pub struct ToldWire {
     lack: Seldom,
     master: MasterLink,
     silence: Silence,
+    /// So many seconds a client may be idle, or for ever where that is 0.
+    idle: u64,
 }
 
 /// Of a wire: what it saw of its node's link to a master.
@@ -36,35 +39,69 @@ impl SeesMaster for ToldWire {
 }
 
 impl ToldWire {
-    /// The wire over these sockets. A peer of replication may be silent for so many seconds.
-    pub fn new(rt: HostRuntime, wire: SocketWire, timeout: u64) -> ToldWire {
-        let master = MasterLink::new(rt.alloc(), timeout);
-        let silence = Silence::new(rt.alloc(), timeout);
+    /// The wire over these sockets. A peer of replication may be silent for so many seconds, and a client for so many, or for ever where
+    /// that is 0.
+    pub fn new(rt: HostRuntime, wire: SocketWire, replication: u64, clients: u64) -> ToldWire {
+        let master = MasterLink::new(rt.alloc(), replication);
+        let silence = Silence::new(rt.alloc(), replication, clients);
         ToldWire {
             rt,
             wire,
             lack: Seldom::new(),
             master,
             silence,
+            idle: clients,
         }
     }
 }
 
-/// Hangs up on each peer that has been silent for too long. How many of them are replicas.
-fn hang_up_silent(wire: &mut SocketWire, silence: &mut Silence, master: &mut MasterLink) -> u64
+/// How many links were hung up, by whom they led to.
+#[derive(Clone, Copy)]
+struct HungUp {
+    replicas: u64,
+    clients: u64,
+}
+
+impl HungUp {
+    /// Counts one more, of which the master's link is told instead where it is that.
+    fn count(&mut self, silent: Silent, master: &mut MasterLink) {
+        match silent {
+            Silent::Replication(link) => {
+                if !master.hang_up(link) {
+                    self.replicas = self.replicas.saturating_add(1);
+                }
+            }
+            Silent::Idle(_) => self.clients = self.clients.saturating_add(1),
+        }
+    }
+}
+
+/// Hangs up on each peer that has been silent for too long.
+fn hang_up_silent(wire: &mut SocketWire, silence: &mut Silence, master: &mut MasterLink) -> HungUp
     ensures links { wire.new.links ≡ wire.old.links }
     ensures failed { wire.new.failed ≡ wire.old.failed }
 {
-    let mut replicas = 0u64;
+    let mut hung_up = HungUp {
+        replicas: 0,
+        clients: 0,
+    };
     for index in 0..silence.len() {
-        if let Some(link) = silence.take_silent(index) {
-            wire.hang_up(link);
-            if !master.hang_up(link) {
-                replicas = replicas.saturating_add(1);
-            }
+        if let Some(silent) = silence.take_silent(index) {
+            wire.hang_up(silent.link());
+            hung_up.count(silent, master);
         }
     }
-    replicas
+    hung_up
+}
+
+/// Says how many clients were hung up that were idle, if any was.
+fn tell_idle(rt: &HostRuntime, clients: u64, idle: u64) {
+    if clients > 0 {
+        tell(
+            rt,
+            &format_args!("clients hung up that were idle for {idle} s: {clients}"),
+        );
+    }
 }
 
 /// Says how many replicas were hung up, if any was.
@@ -89,8 +126,9 @@ impl Wire for ToldWire {
     fn wait(&mut self, millis: u64) -> Result<(), Failed> {
         self.silence.wait(&self.rt);
         if self.silence.is_due() {
-            let replicas = hang_up_silent(&mut self.wire, &mut self.silence, &mut self.master);
-            tell_hung_up(&self.rt, replicas, self.master.timeout());
+            let hung_up = hang_up_silent(&mut self.wire, &mut self.silence, &mut self.master);
+            tell_hung_up(&self.rt, hung_up.replicas, self.master.timeout());
+            tell_idle(&self.rt, hung_up.clients, self.idle);
         }
         self.wire.wait(millis)
     }
