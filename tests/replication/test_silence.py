@@ -12,7 +12,6 @@ from tests.support.program import LATE, request
 from tests.support.replicas import PIECE
 from tests.support.replicating import Replicating, leads
 from tests.support.replies import OK, PONG, bulk
-from tests.support.requests import GET
 from tests.support.server import HOST, MIB
 
 # for how long a peer may be silent here, in seconds: the least that may be asked for
@@ -203,16 +202,6 @@ class Clients(Silent):
         self.assertRegex(self.told(replica, master.port)[-1], rb"\Ain its stream at offset \d+\Z")
         # the five, and the client of the test itself
         self.assertEqual(sum(int(found[1]) for found in map(IDLE_TOLD.fullmatch, master.told()) if found), 6)
-
-    def test_who_takes_a_large_reply_slowly_is_not_idle(self):
-        it, value = self.node(idle=IDLE), bytes(16 * MIB)
-        slow = self.client(it, room=1 << 16)
-        self.assertEqual(slow.asks("SET", "k", value), OK)
-        slow.send(GET)
-        for _ in range(4 * 4 * IDLE):
-            slow.more()
-            time.sleep(IDLE / 4)
-        self.assertEqual(slow.reply(), bulk(value.decode()))
 
 
 if __name__ == "__main__":

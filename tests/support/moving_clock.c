@@ -27,7 +27,7 @@ __attribute__((constructor)) static void begin(void)
     const char *name = getenv("CLOCK");
     long file = name ? syscall(OPENAT, HERE, name, READ_WRITE, 0) : -1;
     if (file >= 0)
-        more = (long *)syscall(MMAP, 0, sizeof(long), PAGES_READ_WRITE, SHARED, file, 0);
+        more = (long *)syscall(MMAP, 0L, sizeof(long), PAGES_READ_WRITE, SHARED, file, 0L);
     takes = number(getenv("RENAME_TAKES"));
 }
 
