@@ -367,7 +367,7 @@ class Moments(Playing):
         """A second passes within a turn, before a lock is taken in it for less."""
         asks = request("SET", "lock", "mine", "NX", "PX", "697") + request("PEXPIRETIME", "lock")
         asked = request("BGREWRITEAOF") + asks
-        for passes, moment in ([], 1697), ([0, 1000], 2697), ([0, 0, 696], 1697), ([300, 700, 5], 2697):
+        for passes, moment in ([0], 1697), ([0, 1000], 2697), ([0, 0, 696], 1697), ([300, 700, 5], 2697):
             turns, _ = self.plays(2, accepts=[peer(asked, asks)], moments=[1000, 2000], passes=passes)
             self.assertEqual(turns[0].links.accepted[0].written, STARTED + OK + number(moment))
             # in the next turn it is taken again, unless it is still held
@@ -378,7 +378,7 @@ class Moments(Playing):
         """A key that expires between two ticks of a turn goes in it."""
         keys = ["k%02d" % it for it in range(70)]
         held = b"".join(request("SET", it, "v") + request("PEXPIREAT", it, "5") for it in keys) + request("SET", "late", "v") + request("PEXPIREAT", "late", "6")
-        for passes, gone in ([], keys), ([0, 0, 0, 1], [*keys, "late"]):
+        for passes, gone in ([0], keys), ([0, 0, 0, 1], [*keys, "late"]):
             turns, loop = self.plays(2, accepts=[peer(NOTHING_TO_CONTINUE)], held=held, moments=[4, 5], passes=passes)
             self.assertEqual(loop.file().held, held + b"".join(request("DEL", it) for it in gone))
 
