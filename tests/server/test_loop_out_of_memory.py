@@ -75,6 +75,13 @@ class Lacking(Refusing):
         self.assertEqual(loop.start(**LISTS), "started")
         return [state(loop, ""), *(state(loop, loop.call("turn")) for _ in range(TURNS))]
 
+    def served(self):
+        """What stands behind these turns where one call makes them and memory is ample: the clock stands still within it."""
+        loop = Loop()
+        self.addCleanup(loop.end)
+        self.assertEqual(loop.start(**LISTS), "started")
+        return state(loop, loop.call("serve %d" % TURNS))
+
     def test_what_happens_where_memory_is_ample(self):
         states = self.ample()
         last = states[-1]
@@ -186,7 +193,7 @@ class Lacking(Refusing):
 
     def test_turns_one_after_another(self):
         """What the client that writes is answered rests on itself alone."""
-        ample, ends = self.ample()[-1], set()
+        ample, ends = self.served(), set()
 
         def plays(loop, is_refused):
             self.assertEqual(loop.start(**LISTS), "started")
