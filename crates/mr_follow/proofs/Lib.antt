@@ -1,3 +1,4 @@
+pub mod Knowing
 pub mod Loadings
 pub mod Fronts
 pub mod Stepping

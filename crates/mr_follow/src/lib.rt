@@ -7,6 +7,7 @@ mod heard;
 mod inbox;
 mod laws;
 mod phase;
+mod single;
 mod status;
 mod stream;
 mod taking;
