@@ -36,9 +36,7 @@ use Rattle.mr_groups.proofs.Cuts.{begins, open_is_not_bad, bad_for_good}
 use Rattle.mr_groups.proofs.Lone.{IsLone, IsOne, lone_group, lone_not_open}
 use Rattle.mr_groups.proofs.Openings.{IsWhole, first_command, multi_text, open_start, doomed_start}
 use Rattle.mr_groups.proofs.Runs.{some_text}
-use Rattle.mr_follow.specs.Stream.{HasCommand, IsStuckWithin, IsRefusedFront, AppliesText, AppliesEffects, AppliesFront, AppliesSingle, WaitsWithin, HasFront}
-use Rattle.mr_follow.specs.declared.single.Single.{Single}
-use Rattle.mr_follow.specs.declared.single.Single.TheVariants as single
+use Rattle.mr_follow.specs.Stream.{HasCommand, IsStuckWithin, IsRefusedFront, AppliesText, AppliesEffects, AppliesFront, WaitsWithin, HasFront}
 use Rattle.mr_follow.specs.declared.heard.FollowFault.{FollowFault}
 use Rattle.mr_follow.specs.declared.heard.FollowFault.TheVariants as fault
 use Rattle.mr_follow.proofs.Loadings.{possible, text_of_words, short_of_words, split_longer, few_taken, taken_or, two_fronts, within_parts}
@@ -201,14 +199,6 @@ waits_front u room m (Err fault.Undecodable) out opened h = (long_refused u room
 waits_front u room m (Err fault.Memory) out opened h = absurd h
 waits_front u room m (Err fault.Spent) out opened h = absurd h
 waits_front u room m (Err fault.Torn) out opened h = absurd h
-
--- .. where an effect that is a group of its own isn't whole
-pub open_waits : (u : List ℕ) (room : ℕ) (m n : Dataset) (s : Single) (r : Result (Option ℕ) FollowFault) (before after : List ℕ) → s ≡ single.Open → AppliesSingle u room m s n before after → WaitsWithin u room r
-    → AppliesFront u room m r n before after
-open_waits u room m n s r before after is h waits =
-    let opened = subst (λ (x : Single). AppliesSingle u room m x n before after) is h in
-    subst (λ (d : Dataset). AppliesFront u room m r d before after) (sym opened.1.0)
-    (subst (λ (out : List ℕ). AppliesFront u room m r m before out) (sym opened.1.1) (waits_front u room m r before opened.0 waits))
 
 pub more_open : (front : List ℕ) (found : Scan) → found ≡ scan.More → ReadsCommand commands front found → IsOpen front
 more_open front found is h = open_start front (subst (λ (s : Scan). ReadsCommand commands front s) is h)

@@ -1,4 +1,3 @@
-pub mod Knowing
 pub mod Loadings
 pub mod Fronts
 pub mod Stepping

@@ -14,8 +14,8 @@ use Rattle.mr_groups.specs.Reading.{IsFirstGroup, IsOpen}
 use Rattle.mr_groups.specs.Folding.{IsRefused, IsTorn}
 use Rattle.mr_groups.specs.declared.applying.GroupFault.{GroupFault}
 use Rattle.mr_groups.specs.declared.applying.GroupFault.TheVariants as group
-use Rattle.mr_follow.specs.declared.single.Single.{Single}
-use Rattle.mr_follow.specs.declared.single.Single.TheVariants as single
+use Rattle.mr_follow.specs.declared.stream.Single.{Single}
+use Rattle.mr_follow.specs.declared.stream.Single.TheVariants as single
 use Rattle.mr_follow.specs.declared.heard.FollowFault.{FollowFault}
 use Rattle.mr_follow.specs.declared.heard.FollowFault.TheVariants.{BadLine, Refused, Undecodable, Memory, Spent, Torn}
 
@@ -119,8 +119,7 @@ AppliesFront u room m (Err Memory) n before after = HasCommand u room × IsSame 
 AppliesFront u room m (Err Spent) n before after = HasSpent u room m n × (after ≡ before)
 AppliesFront u room m (Err Torn) n before after = HasTorn u room m n × (after ≡ before)
 
--- An effect that is a group of its own is; or its text isn't whole; or a frame begins there: then nothing has changed.
+-- An effect that is a group of its own is; or a frame begins there, and nothing has changed.
 abbrev pub AppliesSingle : List ℕ → ℕ → Dataset → Single → Dataset → List ℕ → List ℕ → Type 0
 AppliesSingle u room m (single.Told result) n before after = AppliesFront u room m result n before after
-AppliesSingle u room m single.Open n before after = IsOpen (take room u) × IsSame m n before after
 AppliesSingle u room m single.Framed n before after = IsSame m n before after

@@ -251,7 +251,8 @@ impl Follower {
         let Some(taking) = self.take_out(alloc)? else {
             return Ok(Heard::Idle);
         };
-        let paused = go_on(alloc, taking, &mut self.inbox);
+        let paused = go_on(alloc, taking, self.inbox.unread());
+        self.inbox.take(paused.used);
         match paused.pause {
             Pause::Whole => self.hand_over(alloc, paused.taking, out),
             Pause::More => {

@@ -2,25 +2,18 @@
 ghost use Rattle.std.specs.Prelude.{◌≡◌, ◌≤◌, ◌++◌, [], length, drop, take, IfOk, OnOk, OnErr};
 ghost use Rattle.mr_resp.specs.Command.{BeginsWithCommand};
 ghost use Rattle.mr_resp.specs.Usual.{commands};
-ghost use Rattle.mr_replay.specs.Steps.{Replays};
 ghost use Rattle.mr_groups.specs.Reading.{ReadsGroup};
-ghost use Rattle.mr_follow.specs.Stream.{AppliesSingle};
 
-use crate::single::{Single, apply_single};
+use crate::taking::at_most;
 use mr_buffer::Buffer;
-use mr_data::Dataset;
 use mr_groups::{Next, Reader};
-use mr_replay::{Replayed, replay_front};
-use mr_resp::CommandProgress;
 use std::alloc::{AllocError, Global};
 use std::marker::Model;
 
-/// What was fed and not used, what is known of the command text at its front, and the `reader` that has read a part of a group of it:
-/// so bytes that come in pieces are gone over once.
+/// What was fed and not used, of which `reader` has read a part of a group.
 #[derive(Drop)]
 pub(crate) struct Inbox {
     input: Buffer,
-    known: CommandProgress,
     reader: Reader,
 }
 
@@ -31,10 +24,9 @@ impl Model for Inbox {
 
     ghost view = { λ i. i.input };
 
-    ghost use Rattle.mr_resp.specs.Resumed.{AgreesCommand};
     ghost use Rattle.mr_groups.specs.Readers.{HasRead};
 
-    ghost invariant = { λ i. HasRead i.reader i.input × AgreesCommand i.known i.input };
+    ghost invariant = { λ i. HasRead i.reader i.input };
 }
 
 impl Inbox {
@@ -44,7 +36,6 @@ impl Inbox {
     {
         Inbox {
             input: Buffer::new(alloc),
-            known: CommandProgress::new(),
             reader: Reader::new(alloc),
         }
     }
@@ -62,7 +53,6 @@ impl Inbox {
         ensures { self.new ≡ drop count self.old }
     {
         self.input.take(count);
-        self.known = CommandProgress::new();
         self.reader.reset();
     }
 
@@ -83,43 +73,4 @@ impl Inbox {
     {
         self.reader.next(alloc, at_most(self.input.left(), most))
     }
-
-    /// Applies the effect that is a group of its own at the front of the first `most` unread bytes, and puts its text out. What is
-    /// known of it from before isn't gone over again.
-    pub(crate) fn apply_single(
-        &mut self,
-        alloc: Global,
-        most: u64,
-        held: &mut Dataset,
-        out: &mut Vec<u8>,
-    ) -> Single
-        ensures applied { AppliesSingle self.old most held.old result held.new out.old.items out.new.items }
-        ensures kept { self.new ≡ self.old }
-    {
-        let front = at_most(self.input.left(), most);
-        apply_single(alloc, &mut self.known, front, held, out)
-    }
-
-    /// Does the effects whose texts stand whole at the front of the first `most` unread bytes to a dataset, and uses them. What is
-    /// known of the first from before isn't gone over again.
-    pub(crate) fn replay(&mut self, alloc: Global, most: u64, made: &mut Dataset) -> Replayed
-        ensures done { Replays (take most self.old) result.used made.old made.new result.halt }
-        ensures left { self.new ≡ drop result.used self.old }
-    {
-        let front = at_most(self.input.left(), most);
-        let replayed = replay_front(alloc, made, &mut self.known, front);
-        self.input.take(replayed.used);
-        self.reader.reset();
-        replayed
-    }
-}
-
-/// The first bytes, at most so many.
-pub(crate) fn at_most(bytes: &[u8], most: u64) -> &[u8]
-    ensures { result.now ≡ take most bytes.now }
-{
-    if bytes.len() as u64 <= most {
-        return bytes;
-    }
-    &bytes[..most as usize]
 }

@@ -7,7 +7,6 @@ mod heard;
 mod inbox;
 mod laws;
 mod phase;
-mod single;
 mod status;
 mod stream;
 mod taking;

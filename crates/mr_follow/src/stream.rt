@@ -1,14 +1,27 @@
 // The group at the front of the stream.
-ghost use Rattle.std.specs.Prelude.{◌≡◌};
+ghost use Rattle.std.specs.Prelude.{◌≡◌, ◌≢◌, map};
+ghost use Rattle.std.specs.Cow.{cow_slice_items};
 ghost use Rattle.mr_groups.specs.Groups.{IsGroup};
-ghost use Rattle.mr_follow.specs.Stream.{AppliesEffects, AppliesFront, WaitsWithin, told_as};
+ghost use Rattle.mr_follow.specs.Stream.{AppliesEffects, AppliesFront, AppliesSingle, AppliesText, WaitsWithin, told_as};
 
 use crate::FollowFault;
 use crate::inbox::Inbox;
-use crate::single::Single;
+use crate::taking::at_most;
 use mr_data::{Dataset, Effect};
-use mr_groups::{GroupFault, Next, apply_group_owned};
+use mr_groups::{GroupFault, Next, apply_group_owned, begins_frame};
+use mr_replay::{Tried, try_words};
+use mr_resp::{Scan, next_command};
 use std::alloc::Global;
+use std::borrow::CowSlice;
+
+/// What was made of the front of the stream as an effect that is a group of its own.
+#[derive(Clone, Copy)]
+pub(crate) enum Single {
+    /// All that there is to do was done.
+    Told(Result<Option<usize>, FollowFault>),
+    /// Nothing: a frame begins there.
+    Framed,
+}
 
 /// Why a group wasn't applied, as a follower tells it.
 fn fault_of(fault: GroupFault) -> FollowFault
@@ -65,6 +78,37 @@ fn apply_framed(
     }
 }
 
+/// Applies the effect with these words, and puts its text out. Answers how many bytes it has.
+fn apply_text(
+    alloc: Global,
+    text: &[u8],
+    words: &[CowSlice<'_, u8>],
+    held: &mut Dataset,
+    out: &mut Vec<u8>,
+) -> Result<Option<usize>, FollowFault>
+    ensures { AppliesText text.now (map cow_slice_items words.now) held.old result held.new out.old.items out.new.items }
+{
+    let before = out.len();
+    if out.extend_from_slice(text).is_err() {
+        return Err(FollowFault::Memory);
+    }
+    match try_words(alloc, words, held) {
+        Tried::Done => Ok(Some(text.len())),
+        Tried::Refused => {
+            out.truncate(before);
+            Err(FollowFault::Undecodable)
+        }
+        Tried::Lack => {
+            out.truncate(before);
+            Err(FollowFault::Memory)
+        }
+        Tried::Spent => {
+            out.truncate(before);
+            Err(FollowFault::Spent)
+        }
+    }
+}
+
 /// A group's text is waited for that the first `room` bytes are a beginning of: there may be no more bytes than these.
 fn waits(unread: &[u8], room: u64) -> Result<Option<usize>, FollowFault>
     ensures { WaitsWithin unread.now room result }
@@ -73,6 +117,31 @@ fn waits(unread: &[u8], room: u64) -> Result<Option<usize>, FollowFault>
         return Err(FollowFault::Undecodable);
     }
     Ok(None)
+}
+
+/// Applies the effect that is a group of its own at the front of the stream, as `apply_front` does, from where its words stand.
+fn apply_single(
+    alloc: Global,
+    unread: &[u8],
+    room: u64,
+    held: &mut Dataset,
+    out: &mut Vec<u8>,
+) -> Single
+    ensures { AppliesSingle unread.now room held.old result held.new out.old.items out.new.items }
+{
+    let front = at_most(unread, room);
+    match next_command(alloc, front) {
+        Err(_) => Single::Told(Err(FollowFault::Memory)),
+        Ok(Scan::More) => Single::Told(waits(unread, room)),
+        Ok(Scan::Bad(_)) => Single::Told(Err(FollowFault::Undecodable)),
+        Ok(Scan::Skip { used: _ }) => unreachable!(),
+        Ok(Scan::Whole { words, used }) => {
+            if begins_frame(words.as_slice()) {
+                return Single::Framed;
+            }
+            Single::Told(apply_text(alloc, &front[..used], words.as_slice(), held, out))
+        }
+    }
 }
 
 /// Applies the group at the front of the stream, if its text is whole and has at most `room` bytes, and puts its text
@@ -87,9 +156,8 @@ pub(crate) fn apply_front(
     ensures applied { AppliesFront inbox.old room held.old result held.new out.old.items out.new.items }
     ensures kept { inbox.new ≡ inbox.old }
 {
-    match inbox.apply_single(alloc, room, held, out) {
+    match apply_single(alloc, inbox.unread(), room, held, out) {
         Single::Told(told) => told,
-        Single::Open => waits(inbox.unread(), room),
         Single::Framed => apply_framed(alloc, inbox, room, held, out),
     }
 }

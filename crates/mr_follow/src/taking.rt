@@ -1,11 +1,10 @@
 //! A snapshot that is taken as it comes.
-ghost use Rattle.std.specs.Prelude.{ℕ, ◌≡◌, ◌≤◌, drop};
+ghost use Rattle.std.specs.Prelude.{◌≡◌, ◌≤◌, take};
 ghost use Rattle.std.specs.FinMap.{empty};
 ghost use Rattle.mr_follow.specs.Loading.{GoesOn, pause_of};
 
-use crate::inbox::{Inbox, at_most};
 use mr_data::Dataset;
-use mr_replay::Halt;
+use mr_replay::{Halt, replay_front};
 use std::alloc::Global;
 use std::hash::RandomState;
 
@@ -33,10 +32,11 @@ pub(crate) enum Pause {
     Spent,
 }
 
-/// What was taken up to now, and why no more.
+/// What was taken now, and why no more.
 #[derive(Drop)]
 pub(crate) struct Paused {
     pub(crate) taking: Taking,
+    pub(crate) used: usize,
     pub(crate) pause: Pause,
 }
 
@@ -55,6 +55,16 @@ impl Taking {
             made: Dataset::new(alloc, seed),
         }
     }
+}
+
+/// The first bytes, at most so many.
+pub(crate) fn at_most(bytes: &[u8], most: u64) -> &[u8]
+    ensures { result.now ≡ take most bytes.now }
+{
+    if bytes.len() as u64 <= most {
+        return bytes;
+    }
+    &bytes[..most as usize]
 }
 
 /// Why no more is taken: by whether all bytes of the snapshot are there, and whether all of them were done.
@@ -77,11 +87,10 @@ fn pause_of(halt: Halt, there: bool, ended: bool) -> Pause
     }
 }
 
-/// Takes the effects whose texts stand whole at the front of the unread bytes, as far as the snapshot reaches.
-pub(crate) fn go_on(alloc: Global, taking: Taking, inbox: &mut Inbox) -> Paused
+/// Takes the effects whose texts stand whole at the front of these bytes, as far as the snapshot reaches.
+pub(crate) fn go_on(alloc: Global, taking: Taking, unread: &[u8]) -> Paused
     requires { taking.done ≤ taking.size }
-    ensures { (used : ℕ) × GoesOn taking inbox.old used result.pause result.taking
-        × (inbox.new ≡ drop used inbox.old) }
+    ensures { GoesOn taking unread.now result.used result.pause result.taking }
 {
     let Taking {
         head,
@@ -90,10 +99,10 @@ pub(crate) fn go_on(alloc: Global, taking: Taking, inbox: &mut Inbox) -> Paused
         mut made,
     } = taking;
     let left = size - done;
-    let there = at_most(inbox.unread(), left).len() as u64;
-    let replayed = inbox.replay(alloc, left, &mut made);
+    let there = at_most(unread, left);
+    let replayed = replay_front(alloc, &mut made, there);
     let done = done + replayed.used as u64;
-    let pause = pause_of(replayed.halt, there == left, done == size);
+    let pause = pause_of(replayed.halt, there.len() as u64 == left, done == size);
     Paused {
         taking: Taking {
             head,
@@ -101,6 +110,7 @@ pub(crate) fn go_on(alloc: Global, taking: Taking, inbox: &mut Inbox) -> Paused
             done,
             made,
         },
+        used: replayed.used,
         pause,
     }
 }

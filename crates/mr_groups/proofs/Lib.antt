@@ -1,4 +1,3 @@
-pub mod Knowing
 pub mod Framing
 pub mod Apart
 pub mod Openings

@@ -1,4 +1,3 @@
 pub mod Commands
-pub mod Knowing
 pub mod Leading
 pub mod Pieces

@@ -27,13 +27,12 @@ returns-in-More c =
     let t : Taking = c.in-Some.taking in
     let paused = c.go_on-paused.result in
     let out : TakesOut a (Ok (Some t)) b = subst (λ (x : Option Taking). TakesOut a (Ok x) b) c.in-Some.is c.in_ok-taking.ensures in
-    let kept : c.self.inside.inbox ≡ b.kept = ap (λ (f : FollowState). f.kept) c.self.view_is in
-    let used = c.go_on-paused.ensures.0 in
-    let on : GoesOn t b.kept used paused.pause paused.taking = subst (λ (l : List ℕ). GoesOn t l used paused.pause paused.taking) kept c.go_on-paused.ensures.1 in
-    let by : GoesOn t b.kept used pause.More paused.taking = subst (λ (p : Pause). GoesOn t b.kept used p paused.taking) c.in-More.is on in
+    let kept : c.unread.result.now ≡ b.kept = c.unread.ensures ∙ ap (λ (f : FollowState). f.kept) c.self.view_is in
+    let on : GoesOn t b.kept paused.used paused.pause paused.taking = subst (λ (l : List ℕ). GoesOn t l paused.used paused.pause paused.taking) kept c.go_on-paused.ensures in
+    let by : GoesOn t b.kept paused.used pause.More paused.taking = subst (λ (p : Pause). GoesOn t b.kept paused.used p paused.taking) c.in-More.is on in
     let v : FollowState = record { phase = c.self.inside.phase; offer = c.self.inside.offer; port = c.self.inside.port; taking = c.self.inside.taking; kept = c.self.inside.inbox } in
-    let state = put_is a v b c.put_back.new.self paused.taking used c.go_on-paused.new.inbox c.self.view_is out.1.0 c.go_on-paused.ensures.2 c.put_back.ensures in
-    load_more a c.put_back.new.self t paused.taking b.kept c.requires.0 c.requires.1.0 used c.requires.1.1 out.1.1 by state c.args.out.now.items
+    let state = put_is a v b c.put_back.new.self paused.taking paused.used c.take.new.self c.self.view_is out.1.0 c.take.ensures c.put_back.ensures in
+    load_more a c.put_back.new.self t paused.taking b.kept c.requires.0 c.requires.1.0 paused.used c.requires.1.1 out.1.1 by state c.args.out.now.items
 
 pub returns-in-Bad : goal.returns-in-Bad
 returns-in-Bad c =
@@ -42,13 +41,12 @@ returns-in-Bad c =
     let t : Taking = c.in-Some.taking in
     let paused = c.go_on-paused.result in
     let out : TakesOut a (Ok (Some t)) b = subst (λ (x : Option Taking). TakesOut a (Ok x) b) c.in-Some.is c.in_ok-taking.ensures in
-    let kept : c.self.inside.inbox ≡ b.kept = ap (λ (f : FollowState). f.kept) c.self.view_is in
-    let used = c.go_on-paused.ensures.0 in
-    let on : GoesOn t b.kept used paused.pause paused.taking = subst (λ (l : List ℕ). GoesOn t l used paused.pause paused.taking) kept c.go_on-paused.ensures.1 in
-    let by : GoesOn t b.kept used pause.Bad paused.taking = subst (λ (p : Pause). GoesOn t b.kept used p paused.taking) c.in-Bad.is on in
+    let kept : c.unread.result.now ≡ b.kept = c.unread.ensures ∙ ap (λ (f : FollowState). f.kept) c.self.view_is in
+    let on : GoesOn t b.kept paused.used paused.pause paused.taking = subst (λ (l : List ℕ). GoesOn t l paused.used paused.pause paused.taking) kept c.go_on-paused.ensures in
+    let by : GoesOn t b.kept paused.used pause.Bad paused.taking = subst (λ (p : Pause). GoesOn t b.kept paused.used p paused.taking) c.in-Bad.is on in
     let v : FollowState = record { phase = c.self.inside.phase; offer = c.self.inside.offer; port = c.self.inside.port; taking = c.self.inside.taking; kept = c.self.inside.inbox } in
-    let state = put_is a v b c.put_back-in-Bad.new.self paused.taking used c.go_on-paused.new.inbox c.self.view_is out.1.0 c.go_on-paused.ensures.2 c.put_back-in-Bad.ensures in
-    load_bad a c.put_back-in-Bad.new.self t paused.taking b.kept c.requires.0 c.requires.1.0 used c.requires.1.1 out.1.1 by state c.args.out.now.items
+    let state = put_is a v b c.put_back-in-Bad.new.self paused.taking paused.used c.take.new.self c.self.view_is out.1.0 c.take.ensures c.put_back-in-Bad.ensures in
+    load_bad a c.put_back-in-Bad.new.self t paused.taking b.kept c.requires.0 c.requires.1.0 paused.used c.requires.1.1 out.1.1 by state c.args.out.now.items
 
 pub returns-in-Lack : goal.returns-in-Lack
 returns-in-Lack c =
@@ -57,13 +55,12 @@ returns-in-Lack c =
     let t : Taking = c.in-Some.taking in
     let paused = c.go_on-paused.result in
     let out : TakesOut a (Ok (Some t)) b = subst (λ (x : Option Taking). TakesOut a (Ok x) b) c.in-Some.is c.in_ok-taking.ensures in
-    let kept : c.self.inside.inbox ≡ b.kept = ap (λ (f : FollowState). f.kept) c.self.view_is in
-    let used = c.go_on-paused.ensures.0 in
-    let on : GoesOn t b.kept used paused.pause paused.taking = subst (λ (l : List ℕ). GoesOn t l used paused.pause paused.taking) kept c.go_on-paused.ensures.1 in
-    let by : GoesOn t b.kept used pause.Lack paused.taking = subst (λ (p : Pause). GoesOn t b.kept used p paused.taking) c.in-Lack.is on in
+    let kept : c.unread.result.now ≡ b.kept = c.unread.ensures ∙ ap (λ (f : FollowState). f.kept) c.self.view_is in
+    let on : GoesOn t b.kept paused.used paused.pause paused.taking = subst (λ (l : List ℕ). GoesOn t l paused.used paused.pause paused.taking) kept c.go_on-paused.ensures in
+    let by : GoesOn t b.kept paused.used pause.Lack paused.taking = subst (λ (p : Pause). GoesOn t b.kept paused.used p paused.taking) c.in-Lack.is on in
     let v : FollowState = record { phase = c.self.inside.phase; offer = c.self.inside.offer; port = c.self.inside.port; taking = c.self.inside.taking; kept = c.self.inside.inbox } in
-    let state = put_is a v b c.put_back-in-Lack.new.self paused.taking used c.go_on-paused.new.inbox c.self.view_is out.1.0 c.go_on-paused.ensures.2 c.put_back-in-Lack.ensures in
-    load_lacks a c.put_back-in-Lack.new.self t paused.taking b.kept c.requires.0 c.requires.1.0 used c.requires.1.1 out.1.1 by state c.args.out.now.items
+    let state = put_is a v b c.put_back-in-Lack.new.self paused.taking paused.used c.take.new.self c.self.view_is out.1.0 c.take.ensures c.put_back-in-Lack.ensures in
+    load_lacks a c.put_back-in-Lack.new.self t paused.taking b.kept c.requires.0 c.requires.1.0 paused.used c.requires.1.1 out.1.1 by state c.args.out.now.items
 
 pub returns-in-Spent : goal.returns-in-Spent
 returns-in-Spent c =
@@ -72,14 +69,13 @@ returns-in-Spent c =
     let t : Taking = c.in-Some.taking in
     let paused = c.go_on-paused.result in
     let out : TakesOut a (Ok (Some t)) b = subst (λ (x : Option Taking). TakesOut a (Ok x) b) c.in-Some.is c.in_ok-taking.ensures in
-    let kept : c.self.inside.inbox ≡ b.kept = ap (λ (f : FollowState). f.kept) c.self.view_is in
-    let used = c.go_on-paused.ensures.0 in
-    let on : GoesOn t b.kept used paused.pause paused.taking = subst (λ (l : List ℕ). GoesOn t l used paused.pause paused.taking) kept c.go_on-paused.ensures.1 in
-    let by : GoesOn t b.kept used pause.Spent paused.taking = subst (λ (p : Pause). GoesOn t b.kept used p paused.taking) c.in-Spent.is on in
+    let kept : c.unread.result.now ≡ b.kept = c.unread.ensures ∙ ap (λ (f : FollowState). f.kept) c.self.view_is in
+    let on : GoesOn t b.kept paused.used paused.pause paused.taking = subst (λ (l : List ℕ). GoesOn t l paused.used paused.pause paused.taking) kept c.go_on-paused.ensures in
+    let by : GoesOn t b.kept paused.used pause.Spent paused.taking = subst (λ (p : Pause). GoesOn t b.kept paused.used p paused.taking) c.in-Spent.is on in
     let v : FollowState = record { phase = c.self.inside.phase; offer = c.self.inside.offer; port = c.self.inside.port; taking = c.self.inside.taking; kept = c.self.inside.inbox } in
-    let d : FollowState = record { phase = c.self.inside.phase; offer = c.self.inside.offer; port = c.self.inside.port; taking = c.self.inside.taking; kept = c.go_on-paused.new.inbox } in
-    let state : d ≡ record a { taking = None; kept = drop used b.kept } = left_is a v b used c.go_on-paused.new.inbox c.self.view_is out.1.0 c.go_on-paused.ensures.2 in
-    load_spent a d t paused.taking b.kept c.requires.0 c.requires.1.0 used c.requires.1.1 out.1.1 by state c.args.out.now.items
+    let d : FollowState = record { phase = c.self.inside.phase; offer = c.self.inside.offer; port = c.self.inside.port; taking = c.self.inside.taking; kept = c.take.new.self } in
+    let state : d ≡ record a { taking = None; kept = drop paused.used b.kept } = left_is a v b paused.used c.take.new.self c.self.view_is out.1.0 c.take.ensures in
+    load_spent a d t paused.taking b.kept c.requires.0 c.requires.1.0 paused.used c.requires.1.1 out.1.1 by state c.args.out.now.items
 
 pub returns-in-Whole : goal.returns-in-Whole
 returns-in-Whole c =
@@ -88,11 +84,10 @@ returns-in-Whole c =
     let t : Taking = c.in-Some.taking in
     let paused = c.go_on-paused.result in
     let out : TakesOut a (Ok (Some t)) b = subst (λ (x : Option Taking). TakesOut a (Ok x) b) c.in-Some.is c.in_ok-taking.ensures in
-    let kept : c.self.inside.inbox ≡ b.kept = ap (λ (f : FollowState). f.kept) c.self.view_is in
-    let used = c.go_on-paused.ensures.0 in
-    let on : GoesOn t b.kept used paused.pause paused.taking = subst (λ (l : List ℕ). GoesOn t l used paused.pause paused.taking) kept c.go_on-paused.ensures.1 in
-    let by : GoesOn t b.kept used pause.Whole paused.taking = subst (λ (p : Pause). GoesOn t b.kept used p paused.taking) c.in-Whole.is on in
+    let kept : c.unread.result.now ≡ b.kept = c.unread.ensures ∙ ap (λ (f : FollowState). f.kept) c.self.view_is in
+    let on : GoesOn t b.kept paused.used paused.pause paused.taking = subst (λ (l : List ℕ). GoesOn t l paused.used paused.pause paused.taking) kept c.go_on-paused.ensures in
+    let by : GoesOn t b.kept paused.used pause.Whole paused.taking = subst (λ (p : Pause). GoesOn t b.kept paused.used p paused.taking) c.in-Whole.is on in
     let v : FollowState = record { phase = c.self.inside.phase; offer = c.self.inside.offer; port = c.self.inside.port; taking = c.self.inside.taking; kept = c.self.inside.inbox } in
-    let d : FollowState = record { phase = c.self.inside.phase; offer = c.self.inside.offer; port = c.self.inside.port; taking = c.self.inside.taking; kept = c.go_on-paused.new.inbox } in
-    let state : d ≡ record a { taking = None; kept = drop used b.kept } = left_is a v b used c.go_on-paused.new.inbox c.self.view_is out.1.0 c.go_on-paused.ensures.2 in
-    load_whole a d c.hand_over.new.self t paused.taking b.kept c.requires.0 c.requires.1.0 used c.hand_over.result c.args.out.now.items c.hand_over.new.out.items c.requires.1.1 out.1.1 by state c.hand_over.ensures
+    let d : FollowState = record { phase = c.self.inside.phase; offer = c.self.inside.offer; port = c.self.inside.port; taking = c.self.inside.taking; kept = c.take.new.self } in
+    let state : d ≡ record a { taking = None; kept = drop paused.used b.kept } = left_is a v b paused.used c.take.new.self c.self.view_is out.1.0 c.take.ensures in
+    load_whole a d c.hand_over.new.self t paused.taking b.kept c.requires.0 c.requires.1.0 paused.used c.hand_over.result c.args.out.now.items c.hand_over.new.out.items c.requires.1.1 out.1.1 by state c.hand_over.ensures

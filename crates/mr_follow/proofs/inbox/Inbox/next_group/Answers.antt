@@ -8,4 +8,4 @@ next-requires c =
     let u = c.self.inside.input in
     let front : c.at_most.result.now ≡ take c.args.most u = c.at_most.ensures ∙ ap (take c.args.most) c.left.ensures in
     let whole : u ≡ c.at_most.result.now ++ drop c.args.most u = sym (take-append-drop c.args.most u) ∙ ap (λ (l : List ℕ). l ++ drop c.args.most u) (sym front) in
-    (drop c.args.most u, subst (λ (l : List ℕ). HasRead c.self.inside.reader l) whole c.self.invariant.0)
+    (drop c.args.most u, subst (λ (l : List ℕ). HasRead c.self.inside.reader l) whole c.self.invariant)
