@@ -10,4 +10,5 @@ pub mod TextSteps
 pub mod Cutting
 pub mod Puts
 mod Index
+mod TimedLists
 mod Coming
