@@ -19,7 +19,7 @@ EXCUSED = {
         "mr_value": 118,  # lists, hashes, sets and their bytes: kinds of one value
         "mr_node": 115,  # each call on a node, by the one invariant below it
         "mr_loop": 118,  # a turn, whose steps share one clause
-        "mr_entries": 111,  # what each effect makes of each kind of value, and the order of deadlines beside them
+        "mr_entries": 102,  # what each effect makes of each kind of value
     },
     "rows": {
         "crates/mr_history_example/specs/Troubles.antt": 850,  # a run, moment by moment

@@ -2,7 +2,7 @@
 ghost use Rattle.std.specs.Prelude.{◌≡◌, ◌==◌, ◌<◌, ◌^◌, map as each, option_copied};
 ghost use Rattle.std.specs.Option.{option_map, option_and_then};
 ghost use Rattle.std.specs.FinMap as map;
-ghost use Rattle.mr_entries.specs.TimedKeys.{count_come, timed_keys, shown};
+ghost use Rattle.mr_entries.specs.TimedKeys.{timed_keys, shown};
 
 mod applying;
 mod together;
@@ -10,8 +10,8 @@ mod whole;
 
 use mr_entries::{Entries, Entry, TimedKey, Value};
 use mr_map::Keys;
-use mr_order::Iter;
 use std::alloc::Global;
+use std::collections::btree_set;
 use std::hash::RandomState;
 use std::marker::Model;
 
@@ -99,17 +99,10 @@ impl Dataset {
     }
 
     /// The keys that have a deadline with it, in order of deadline and then of bytes, expired or not.
-    pub(crate) fn timed_keys(&self) -> Iter<'_, TimedKey>
+    pub(crate) fn timed_keys(&self) -> btree_set::Iter<'_, TimedKey>
         ensures all { each shown result ≡ timed_keys self.now }
         ensures kept { IsDataset self.now }
     {
         self.entries.timed_keys()
-    }
-
-    /// How many keys have a deadline that has come at a moment.
-    pub(crate) fn count_come(&self, now: i64) -> usize
-        ensures count { result ≡ count_come now (timed_keys self.now) }
-    {
-        self.entries.count_come(now)
     }
 }

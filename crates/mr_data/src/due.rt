@@ -51,12 +51,19 @@ impl Dataset {
         Some(due.key)
     }
 
-    /// How many keys are not expired at a moment. None of the expired ones is gone over. It takes no memory.
+    /// How many keys are not expired at a moment. Its time grows with the number of the expired ones alone. It takes no memory.
     pub fn live_len(&self, now: i64) -> usize
         ensures len { result ≡ len (seen now self.now) }
         ensures small { result < 2 ^ 63 }
     {
-        self.len() - self.count_come(now)
+        let mut count = self.len();
+        for timed in self.timed_keys() {
+            if !is_expired(timed, now) {
+                return count;
+            }
+            count -= 1;
+        }
+        count
     }
 }
 

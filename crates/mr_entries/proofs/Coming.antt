@@ -9,6 +9,7 @@ use Rattle.std.specs.Cmp.{tied_then}
 use Rattle.std.specs.List.{AllByRecursion, list_any, flat_map}
 use Rattle.std.specs.List.Sorted.{IsStrictlySortedBy}
 use Rattle.std.specs.FinMap.{get, keys, contains_key, entries, entries_sorted, is_sorted, contains_key-keys}
+use Rattle.std.specs.BTreeSet.{BTreeSet}
 use Rattle.std.proofs.lemmas.List.Folds.{list_any-append}
 use Rattle.std.proofs.lemmas.List.Sorted.{list_any-IsPermutation}
 use Rattle.std.proofs.lemmas.Map.Lookups.{btree_set_from_contains}
@@ -196,9 +197,9 @@ any_shown : (p : Pair) (xs : List TimedKey) → list_any (λ q. is_eq (pair_cmp 
 any_shown p [] = refl
 any_shown p (x ∷ xs) = ap (λ b. is_eq (pair_cmp p (shown x)) || b) (any_shown p xs)
 
-pub in_order_of_deadline : (m : Dataset) (s : List TimedKey) → IsIndex m s → IsStrictlySortedBy timed_cmp s → map shown s ≡ timed_keys m
+pub in_order_of_deadline : (m : Dataset) (s : BTreeSet TimedKey) → IsIndex m s → IsStrictlySortedBy timed_cmp s.keys → map shown s.keys ≡ timed_keys m
 unfolding among of_key
 in_order_of_deadline m s all up =
-    btree_set_from_contains pairs_total (record { keys = map shown s }) (record { keys = timed_keys m }) (strict_shown s up)
+    btree_set_from_contains pairs_total (record { keys = map shown s.keys }) (record { keys = timed_keys m }) (strict_shown s.keys up)
     (strict_in_order (flat_map (of_key m) (keys m)) (are_apart m (keys m) (keys_rise (entries m) (entries_sorted m))))
-    (λ p. any_shown p s ∙ all p ∙ sym (at_all m p)) exact_pair
+    (λ p. any_shown p s.keys ∙ all p ∙ sym (at_all m p)) exact_pair

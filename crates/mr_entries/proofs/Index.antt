@@ -6,25 +6,28 @@ use Rattle.std.specs.declared.result.Result.TheVariants.{Ok, Err}
 use Rattle.std.specs.Ordering.{int_eq, is_eq, eq_by_cmp}
 use Rattle.std.specs.Cmp.{tied_then}
 use Rattle.std.specs.FinMap.{get, insert, remove, empty, get-empty}
+use Rattle.std.specs.BTreeSet.{BTreeSet, Updates}
+use Rattle.std.specs.Set.{KeepsOthers}
 use Rattle.std.proofs.lemmas.Bool.Decides.{Decides-int_eq}
 use Rattle.mr_map.specs.Bytes.{Bytes, bytes_cmp}
 use Rattle.mr_zset.specs.Pairs.{pair_cmp}
+use Rattle.mr_zset.proofs.PairLemmas.{pairs_total, exact_pair}
 use Rattle.mr_entries.specs.Dataset.{Dataset, put_at}
 use Rattle.mr_entries.specs.Steps.{deadline_of}
-use Rattle.mr_entries.specs.TimedKeys.{shown, is_deadline, has, IsIndex, IsDeadlineOf, Reindexes, Updates}
+use Rattle.mr_entries.specs.TimedKeys.{shown, is_deadline, timed_cmp, has, IsIndex, IsDeadlineOf, Reindexes}
 use Rattle.mr_entries.specs.declared.timed_key.TimedKey.{TimedKey}
 use Rattle.mr_entries.specs.declared.value.Entry.{Entry}
-use Rattle.mr_entries.proofs.Maps.{same_key, insert_same, remove_insert, remove_absent}
+use Rattle.mr_entries.proofs.Maps.{same_key, insert_same, remove_insert, remove_absent, tied}
 use Rattle.mr_entries.proofs.Puts.{get_put_other}
 
 -- an index without timed keys, beside a map without keys
-pub IsIndex-empty : (m : Dataset) (s : List TimedKey) → m ≡ empty → s ≡ [] → IsIndex m s
+pub IsIndex-empty : (m : Dataset) (s : BTreeSet TimedKey) → m ≡ empty → s.keys ≡ [] → IsIndex m s
 IsIndex-empty m s none bare p =
-    ap (λ (ks : List TimedKey). has ks p) bare
+    ap (λ (ks : List TimedKey). has (record { keys = ks }) p) bare
     ∙ sym (ap (λ (o : Option Entry). is_deadline p.1 (deadline_of o)) (ap (λ (n : Dataset). get n p.0) none ∙ get-empty bytes_cmp p.0))
 
 -- at other keys the index says what it said, and at this one what it says now
-pub IsIndex-put : (m : Dataset) (k : Bytes) (o : Option Entry) (s n : List TimedKey) → IsIndex m s → Reindexes k (deadline_of o) s n → IsIndex (put_at m k o) n
+pub IsIndex-put : (m : Dataset) (k : Bytes) (o : Option Entry) (s n : BTreeSet TimedKey) → IsIndex m s → Reindexes k (deadline_of o) s n → IsIndex (put_at m k o) n
 IsIndex-put m k o s n all here p =
     here p ∙ elim (eq_by_cmp bytes_cmp p.0 k) as (λ b. (if b then is_deadline p.1 (deadline_of o) else has s p) ≡ is_deadline p.1 (deadline_of (cond b o (get m p.0)))) [
       | true ↦ refl
@@ -32,14 +35,23 @@ IsIndex-put m k o s n all here p =
     ] ∙ sym (ap (λ (e : Option Entry). is_deadline p.1 (deadline_of e)) (get_put_other m k o p.0))
 
 -- what an index has of a key
-pub of_key : (m : Dataset) (k : Bytes) (s : List TimedKey) → IsIndex m s → IsDeadlineOf k (deadline_of (get m k)) s
+pub of_key : (m : Dataset) (k : Bytes) (s : BTreeSet TimedKey) → IsIndex m s → IsDeadlineOf k (deadline_of (get m k)) s
 of_key m k s all p is = all p ∙ ap (λ (q : Bytes). is_deadline p.1 (deadline_of (get m q))) is
 
 -- the deadline stays
-pub unmoved : (k : Bytes) (d : Option ℤ) (s : List TimedKey) → IsDeadlineOf k d s → Reindexes k d s s
+pub unmoved : (k : Bytes) (d : Option ℤ) (s : BTreeSet TimedKey) → IsDeadlineOf k d s → Reindexes k d s s
 unmoved k d s of p = elim (eq_by_cmp bytes_cmp p.0 k) as (λ b. eq_by_cmp bytes_cmp p.0 k ≡ b → has s p ≡ (if b then is_deadline p.1 d else has s p)) [
   | true ↦ λ e. of p (same_key p.0 k e)
   | false ↦ λ e. refl
+] refl
+
+-- what an index has, after one timed key came or went
+updated : (e : TimedKey) (s n : BTreeSet TimedKey) (b : Bool) → Updates timed_cmp s n e b → (p : Bytes × ℤ) → has n p ≡ cond (is_eq (pair_cmp p (shown e))) b (has s p)
+unfolding KeepsOthers
+updated e s n b u p = elim (is_eq (pair_cmp p (shown e))) as (λ t. is_eq (pair_cmp p (shown e)) ≡ t → has n p ≡ cond t b (has s p)) [
+  | true ↦ λ h. ap (has n) (exact_pair p (shown e) (tied _ h)) ∙ u.1
+  | false ↦ λ h. u.3 (λ x. is_eq (pair_cmp p (shown x))) (λ x y g. ap is_eq (pairs_total.congr p (shown x) (shown y) (tied _ g)))
+      (λ x g. subst (λ (q : Bytes × ℤ). is_eq (pair_cmp p q) ≡ false) (exact_pair (shown e) (shown x) (tied _ g)) h)
 ] refl
 
 -- when a timed key is a key's with this deadline
@@ -67,18 +79,18 @@ none_left true = refl
 none_left false = refl
 
 -- one timed key comes, of a key that has none
-pub comes : (e : TimedKey) (s n : List TimedKey) → IsDeadlineOf e.key None s → Updates e true s n → Reindexes e.key (Some e.deadline) s n
+pub comes : (e : TimedKey) (s n : BTreeSet TimedKey) → IsDeadlineOf e.key None s → Updates timed_cmp s n e true → Reindexes e.key (Some e.deadline) s n
 comes e s n of u p =
-    u p ∙ ap (λ b. cond b true (has s p)) (tie p e)
+    updated e s n true u p ∙ ap (λ b. cond b true (has s p)) (tie p e)
     ∙ elim (eq_by_cmp bytes_cmp p.0 e.key) as (λ b. eq_by_cmp bytes_cmp p.0 e.key ≡ b → cond (int_eq p.1 e.deadline && b) true (has s p) ≡ (if b then int_eq p.1 e.deadline else has s p)) [
       | true ↦ λ h. ap (λ c. cond c true (has s p)) (keep_true (int_eq p.1 e.deadline)) ∙ ap (cond (int_eq p.1 e.deadline) true) (of p (same_key p.0 e.key h)) ∙ is_itself (int_eq p.1 e.deadline)
       | false ↦ λ h. ap (λ c. cond c true (has s p)) (drop_false (int_eq p.1 e.deadline))
     ] refl
 
 -- the one timed key of a key goes
-pub goes_out : (e : TimedKey) (s n : List TimedKey) → IsDeadlineOf e.key (Some e.deadline) s → Updates e false s n → Reindexes e.key None s n
+pub goes_out : (e : TimedKey) (s n : BTreeSet TimedKey) → IsDeadlineOf e.key (Some e.deadline) s → Updates timed_cmp s n e false → Reindexes e.key None s n
 goes_out e s n of u p =
-    u p ∙ ap (λ b. cond b false (has s p)) (tie p e)
+    updated e s n false u p ∙ ap (λ b. cond b false (has s p)) (tie p e)
     ∙ elim (eq_by_cmp bytes_cmp p.0 e.key) as (λ b. eq_by_cmp bytes_cmp p.0 e.key ≡ b → cond (int_eq p.1 e.deadline && b) false (has s p) ≡ (if b then false else has s p)) [
       | true ↦ λ h. ap (λ c. cond c false (has s p)) (keep_true (int_eq p.1 e.deadline)) ∙ ap (cond (int_eq p.1 e.deadline) false) (of p (same_key p.0 e.key h)) ∙ none_left (int_eq p.1 e.deadline)
       | false ↦ λ h. ap (λ c. cond c false (has s p)) (drop_false (int_eq p.1 e.deadline))
@@ -93,11 +105,11 @@ two_numbers a b z apart h =
     ] refl
 
 -- another timed key of a key comes, and its first one goes
-pub moves : (first second : TimedKey) (s n r : List TimedKey) → second.key ≡ first.key → int_eq first.deadline second.deadline ≡ false → IsDeadlineOf first.key (Some first.deadline) s
-    → Updates second true s n → Updates first false n r → Reindexes first.key (Some second.deadline) s r
+pub moves : (first second : TimedKey) (s n r : BTreeSet TimedKey) → second.key ≡ first.key → int_eq first.deadline second.deadline ≡ false → IsDeadlineOf first.key (Some first.deadline) s
+    → Updates timed_cmp s n second true → Updates timed_cmp n r first false → Reindexes first.key (Some second.deadline) s r
 moves first second s n r one apart of u v p =
-    v p ∙ ap (λ b. cond b false (has n p)) (tie p first)
-    ∙ ap (cond (int_eq p.1 first.deadline && eq_by_cmp bytes_cmp p.0 first.key) false) (u p ∙ ap (λ b. cond b true (has s p)) (tie p second ∙ ap (λ (k : Bytes). int_eq p.1 second.deadline && eq_by_cmp bytes_cmp p.0 k) one))
+    updated first n r false v p ∙ ap (λ b. cond b false (has n p)) (tie p first)
+    ∙ ap (cond (int_eq p.1 first.deadline && eq_by_cmp bytes_cmp p.0 first.key) false) (updated second s n true u p ∙ ap (λ b. cond b true (has s p)) (tie p second ∙ ap (λ (k : Bytes). int_eq p.1 second.deadline && eq_by_cmp bytes_cmp p.0 k) one))
     ∙ elim (eq_by_cmp bytes_cmp p.0 first.key) as (λ b. eq_by_cmp bytes_cmp p.0 first.key ≡ b → cond (int_eq p.1 first.deadline && b) false (cond (int_eq p.1 second.deadline && b) true (has s p)) ≡ (if b then int_eq p.1 second.deadline else has s p)) [
       | true ↦ λ h. ap (λ c. cond c false (cond (int_eq p.1 second.deadline && true) true (has s p))) (keep_true (int_eq p.1 first.deadline))
           ∙ ap (λ c. cond (int_eq p.1 first.deadline) false (cond c true (has s p))) (keep_true (int_eq p.1 second.deadline))
@@ -112,26 +124,26 @@ pub same_deadline : (a b : ℤ) → int_eq a b ≡ true → a ≡ b
 same_deadline a b h = search (rules, Decides-int_eq)
 
 -- what a key has, put there again
-pub IsIndex-kept : (m : Dataset) (k : Bytes) (e : Entry) (s : List TimedKey) → IsIndex m s → Some e ≡ get m k → IsIndex (insert m k e) s
+pub IsIndex-kept : (m : Dataset) (k : Bytes) (e : Entry) (s : BTreeSet TimedKey) → IsIndex m s → Some e ≡ get m k → IsIndex (insert m k e) s
 IsIndex-kept m k e s all h = subst (λ (n : Dataset). IsIndex n s) (sym (insert_same m k e (sym h))) all
 
 -- another value under the same deadline
-pub IsIndex-value : (m : Dataset) (k : Bytes) (e f : Entry) (s : List TimedKey) → IsIndex m s → Some e ≡ get m k → f.deadline ≡ e.deadline → IsIndex (insert m k f) s
+pub IsIndex-value : (m : Dataset) (k : Bytes) (e f : Entry) (s : BTreeSet TimedKey) → IsIndex m s → Some e ≡ get m k → f.deadline ≡ e.deadline → IsIndex (insert m k f) s
 IsIndex-value m k e f s all h same = IsIndex-put m k (Some f) s s all (unmoved k f.deadline s (subst (λ (d : Option ℤ). IsDeadlineOf k d s) (ap deadline_of (sym h) ∙ sym same) (of_key m k s all)))
 
 -- what an index has of a key with an entry
-pub of_entry : (m : Dataset) (k : Bytes) (e : Entry) (s : List TimedKey) → IsIndex m s → Some e ≡ get m k → IsDeadlineOf k e.deadline s
+pub of_entry : (m : Dataset) (k : Bytes) (e : Entry) (s : BTreeSet TimedKey) → IsIndex m s → Some e ≡ get m k → IsDeadlineOf k e.deadline s
 of_entry m k e s all h = subst (λ (d : Option ℤ). IsDeadlineOf k d s) (ap deadline_of (sym h)) (of_key m k s all)
 
 -- .. and of one without
-pub of_none : (m : Dataset) (k : Bytes) (s : List TimedKey) → IsIndex m s → get m k ≡ None → IsDeadlineOf k None s
+pub of_none : (m : Dataset) (k : Bytes) (s : BTreeSet TimedKey) → IsIndex m s → get m k ≡ None → IsDeadlineOf k None s
 of_none m k s all h = subst (λ (d : Option ℤ). IsDeadlineOf k d s) (ap deadline_of h) (of_key m k s all)
 
 is_none : (o : Option ℤ) → ((d : ℤ) → o ≡ Some d → ⊥) → o ≡ None
 is_none None h = refl
 is_none (Some d) h = absurd (h d refl)
 
-module _ (m : Dataset) (k name : Bytes) (e : Entry) (s : List TimedKey) (all : IsIndex m s) (absent : get m k ≡ None) (same : name ≡ k) where
+module _ (m : Dataset) (k name : Bytes) (e : Entry) (s : BTreeSet TimedKey) (all : IsIndex m s) (absent : get m k ≡ None) (same : name ≡ k) where
   -- a key comes without a deadline
   pub comes_without : (r : Dataset) → ((d : ℤ) → e.deadline ≡ Some d → ⊥) → r ≡ insert m name e → IsIndex r s
   comes_without r none is =
@@ -139,7 +151,7 @@ module _ (m : Dataset) (k name : Bytes) (e : Entry) (s : List TimedKey) (all : I
       (IsIndex-put m k (Some e) s s all (subst (λ (d : Option ℤ). Reindexes k d s s) (sym (is_none e.deadline none)) (unmoved k None s (of_none m k s all absent))))
 
   -- .. or with one
-  pub comes_with : (x : TimedKey) (n : List TimedKey) (r : Dataset) → x.key ≡ k → e.deadline ≡ Some x.deadline → Updates x true s n → r ≡ insert m name e → IsIndex r n
+  pub comes_with : (x : TimedKey) (n : BTreeSet TimedKey) (r : Dataset) → x.key ≡ k → e.deadline ≡ Some x.deadline → Updates timed_cmp s n x true → r ≡ insert m name e → IsIndex r n
   comes_with x n r here until u is =
       subst (λ (w : Dataset). IsIndex w n) (sym (is ∙ ap (λ (q : Bytes). insert m q e) same))
       (IsIndex-put m k (Some e) s n all (subst (λ (d : Option ℤ). Reindexes k d s n) (sym until)
@@ -149,10 +161,10 @@ module _ (m : Dataset) (k name : Bytes) (e : Entry) (s : List TimedKey) (all : I
   pub came_and_went : (q : Bytes) (r : Dataset) → q ≡ k → r ≡ remove (insert m name e) q → r ≡ m
   came_and_went q r here is = is ∙ ap (λ (p : Bytes). remove (insert m p e) q) (same ∙ sym here) ∙ remove_insert m q e ∙ remove_absent m q (ap (get m) here ∙ absent)
 
-pub same_index : (m r : Dataset) (s n : List TimedKey) → IsIndex m s → r ≡ m → n ≡ s → IsIndex r n
-same_index m r s n all is keys p = ap (λ (ks : List TimedKey). has ks p) keys ∙ all p ∙ ap (λ (w : Dataset). is_deadline p.1 (deadline_of (get w p.0))) (sym is)
+pub same_index : (m r : Dataset) (s n : BTreeSet TimedKey) → IsIndex m s → r ≡ m → n.keys ≡ s.keys → IsIndex r n
+same_index m r s n all is keys p = ap (λ (ks : List TimedKey). has (record { keys = ks }) p) keys ∙ all p ∙ ap (λ (w : Dataset). is_deadline p.1 (deadline_of (get w p.0))) (sym is)
 
-module _ (m : Dataset) (k : Bytes) (s : List TimedKey) (all : IsIndex m s) where
+module _ (m : Dataset) (k : Bytes) (s : BTreeSet TimedKey) (all : IsIndex m s) where
   -- a key goes that isn't there
   pub leaves_none : (r : Dataset) → get m k ≡ None → r ≡ remove m k → IsIndex r s
   leaves_none r absent is = same_index m r s s all (is ∙ remove_absent m k absent) refl
@@ -163,12 +175,12 @@ module _ (m : Dataset) (k : Bytes) (s : List TimedKey) (all : IsIndex m s) where
       subst (λ (n : Dataset). IsIndex n s) (sym is) (IsIndex-put m k None s s all (unmoved k None s (subst (λ (d : Option ℤ). IsDeadlineOf k d s) (is_none e.deadline none) (of_entry m k e s all (sym there)))))
 
   -- .. or one
-  pub leaves_with : (q : Bytes) (n : List TimedKey) (r : Dataset) → q ≡ k → Reindexes q None s n → r ≡ remove m k → IsIndex r n
+  pub leaves_with : (q : Bytes) (n : BTreeSet TimedKey) (r : Dataset) → q ≡ k → Reindexes q None s n → r ≡ remove m k → IsIndex r n
   leaves_with q n r here out is =
       subst (λ (w : Dataset). IsIndex w n) (sym is) (IsIndex-put m k None s n all (subst (λ (p : Bytes). Reindexes p None s n) here out))
 
 -- a key that is there has another entry
-pub IsIndex-set : (m : Dataset) (k name : Bytes) (e : Entry) (s n : List TimedKey) → IsIndex m s → name ≡ k → Reindexes name e.deadline s n → IsIndex (insert m k e) n
+pub IsIndex-set : (m : Dataset) (k name : Bytes) (e : Entry) (s n : BTreeSet TimedKey) → IsIndex m s → name ≡ k → Reindexes name e.deadline s n → IsIndex (insert m k e) n
 IsIndex-set m k name e s n all same here = IsIndex-put m k (Some e) s n all (subst (λ (q : Bytes). Reindexes q e.deadline s n) same here)
 
 pub on_err : {A E : Type 0} {P : Type 0} (r : Result A E) → P → OnErr r P

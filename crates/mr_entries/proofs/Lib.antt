@@ -10,5 +10,4 @@ pub mod TextSteps
 pub mod Cutting
 pub mod Puts
 mod Index
-mod TimedLists
 mod Coming

@@ -1,7 +1,7 @@
 // Entries by key, whatever they hold.
 ghost use Rattle.std.specs.Prelude.{◌≡◌, ◌≢◌, ◌<◌, ◌^◌, map as each, option_copied, OnOk, Err};
 ghost use Rattle.std.specs.FinMap as map;
-ghost use Rattle.mr_entries.specs.TimedKeys.{count_come, timed_keys, shown};
+ghost use Rattle.mr_entries.specs.TimedKeys.{timed_keys, shown};
 ghost use Rattle.mr_entries.specs.Steps.{without_deadline};
 
 mod copying;
@@ -21,8 +21,8 @@ use crate::timed_key::TimedKey;
 use crate::value::{Entry, Value};
 use mr_bytes::Word;
 use mr_map::Keys;
-use mr_order::Iter;
 use std::alloc::Global;
+use std::collections::btree_set;
 use std::hash::RandomState;
 use std::marker::Model;
 
@@ -81,19 +81,10 @@ impl Entries {
     }
 
     /// The keys that have a deadline with it, in order of deadline and then of bytes.
-    pub fn timed_keys(&self) -> Iter<'_, TimedKey>
+    pub fn timed_keys(&self) -> btree_set::Iter<'_, TimedKey>
         ensures { each shown result ≡ timed_keys self.now }
     {
         self.by_key.timed_keys()
-    }
-
-    /// How many keys have a deadline that has come at a moment, in milliseconds. Its time grows with the number of digits of the number
-    /// of deadlines. It takes no memory.
-    pub fn count_come(&self, now: i64) -> usize
-        ensures count { result ≡ count_come now (timed_keys self.now) }
-        ensures small { result < 2 ^ 63 }
-    {
-        self.by_key.count_come(now)
     }
 
     /// Empties entries for which memory ran out.

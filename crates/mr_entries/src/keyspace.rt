@@ -3,19 +3,18 @@ ghost use Rattle.std.specs.Prelude.{◌≡◌, ◌≢◌, ◌<◌, ◌^◌, None
 ghost use Rattle.std.specs.FinMap as map;
 ghost use Rattle.std.specs.Option.{option_copied_mut};
 ghost use Rattle.mr_entries.specs.Changes.{at_key};
-ghost use Rattle.mr_entries.specs.TimedKeys.{count_come, timed_keys, shown, IsDeadlineOf, Reindexes};
+ghost use Rattle.mr_entries.specs.TimedKeys.{timed_keys, shown, IsDeadlineOf, Reindexes};
 ghost use Rattle.mr_entries.specs.Outcome.{Applies};
 ghost use Rattle.mr_entries.specs.Steps.{deadline_step};
 
-use crate::deadlines::Deadlines;
 use crate::fault::ApplyFault;
 use crate::timed_key::TimedKey;
 use crate::value::{Entry, Value};
 use mr_bytes::Word;
 use mr_map::{KeyedMap, Keys, ShortKey};
-use mr_order::Iter;
 use mr_value::CompactBytes;
 use std::alloc::{AllocError, Global};
+use std::collections::{BTreeSet, btree_set};
 use std::hash::RandomState;
 use std::marker::Model;
 
@@ -25,7 +24,7 @@ pub(crate) struct Keyspace {
     seed: RandomState,
     by_key: KeyedMap<Entry>,
     // Exactly the deadlines of the entries.
-    timed_keys: Deadlines,
+    timed_keys: BTreeSet<TimedKey>,
 }
 
 // By hand, so that it is one call wherever a value goes (docs/PROVING.md).
@@ -66,7 +65,7 @@ impl Keyspace {
             alloc,
             seed,
             by_key: KeyedMap::new(alloc, seed),
-            timed_keys: Deadlines::new(alloc),
+            timed_keys: BTreeSet::new(alloc),
         }
     }
 
@@ -152,16 +151,14 @@ impl Keyspace {
             return Ok(());
         };
         let name = CompactBytes::copied(self.alloc, key.as_slice())?;
-        let again = CompactBytes::copied(self.alloc, key.as_slice())?;
         insert(self.alloc, &mut self.by_key, key, entry)?;
-        let timed = TimedKey {
+        match self.timed_keys.insert(TimedKey {
             deadline,
             key: name,
-        };
-        match self.timed_keys.insert(timed) {
-            Ok(()) => Ok(()),
-            Err(_refused) => {
-                take_back(&mut self.by_key, &again);
+        }) {
+            Ok(_) => Ok(()),
+            Err(refused) => {
+                take_back(&mut self.by_key, refused.value);
                 Err(AllocError)
             }
         }
@@ -217,18 +214,10 @@ impl Keyspace {
     }
 
     /// The keys that have a deadline with it, in order of deadline and then of bytes.
-    pub(crate) fn timed_keys(&self) -> Iter<'_, TimedKey>
+    pub(crate) fn timed_keys(&self) -> btree_set::Iter<'_, TimedKey>
         ensures { each shown result ≡ timed_keys self.now }
     {
         self.timed_keys.iter()
-    }
-
-    /// How many keys have a deadline that has come at a moment. It takes no memory.
-    pub(crate) fn count_come(&self, now: i64) -> usize
-        ensures count { result ≡ count_come now (timed_keys self.now) }
-        ensures small { result < 2 ^ 63 }
-    {
-        self.timed_keys.count_come(now)
     }
 }
 
@@ -256,16 +245,16 @@ fn insert(
 }
 
 /// Takes out a key that found no place in the index.
-fn take_back(by_key: &mut KeyedMap<Entry>, key: &CompactBytes)
-    ensures { by_key.new ≡ map.remove by_key.old key.now }
+fn take_back(by_key: &mut KeyedMap<Entry>, refused: TimedKey)
+    ensures { by_key.new ≡ map.remove by_key.old refused.key }
 {
-    let _ = by_key.remove(key.as_slice());
+    let _ = by_key.remove(refused.key.as_slice());
 }
 
 /// Makes this the deadline of a key in an index, in milliseconds, or none. Where memory runs out nothing has changed.
 fn reindex(
     alloc: Global,
-    timed_keys: &mut Deadlines,
+    timed_keys: &mut BTreeSet<TimedKey>,
     key: CompactBytes,
     before: Option<i64>,
     after: Option<i64>,
@@ -277,7 +266,7 @@ fn reindex(
     match (before, after) {
         (None, None) => {}
         (None, Some(after)) => {
-            timed_keys.insert(TimedKey {
+            let _ = timed_keys.insert(TimedKey {
                 deadline: after,
                 key,
             })?;
@@ -289,17 +278,17 @@ fn reindex(
 }
 
 /// Takes the deadline of a key out of an index.
-fn unindex(timed_keys: &mut Deadlines, key: CompactBytes, deadline: i64)
+fn unindex(timed_keys: &mut BTreeSet<TimedKey>, key: CompactBytes, deadline: i64)
     requires { IsDeadlineOf key (Some deadline) timed_keys.old }
     ensures { Reindexes key None timed_keys.old timed_keys.new }
 {
-    timed_keys.remove(&TimedKey { deadline, key });
+    let _ = timed_keys.remove(&TimedKey { deadline, key });
 }
 
 /// Makes another moment the deadline of a key in an index. Where memory runs out nothing has changed.
 fn move_deadline(
     alloc: Global,
-    timed_keys: &mut Deadlines,
+    timed_keys: &mut BTreeSet<TimedKey>,
     key: CompactBytes,
     before: i64,
     after: i64,
@@ -312,11 +301,11 @@ fn move_deadline(
         return Ok(());
     }
     let name = CompactBytes::copied(alloc, key.as_slice())?;
-    timed_keys.insert(TimedKey {
+    let _ = timed_keys.insert(TimedKey {
         deadline: after,
         key: name,
     })?;
-    timed_keys.remove(&TimedKey {
+    let _ = timed_keys.remove(&TimedKey {
         deadline: before,
         key,
     });

@@ -1,7 +1,6 @@
 //! What keys hold, and what each effect does to it.
 #![tactic(auto)]
 
-mod deadlines;
 mod entries;
 mod fault;
 mod keyspace;

@@ -20,5 +20,5 @@ returns-clause-ok c =
     ] refl in
     moves (record { deadline = c.args.before; key = c.args.key }) (record { deadline = c.args.after; key = c.in_ok-name.name }) c.args.timed_keys.now c.insert.new.self c.remove.new.self
     (c.in_ok-name.ensures ∙ c.as_slice.ensures) apart c.requires
-    (rw (sym (to_z-of_z w64 c.args.after c.ranges.after)) c.in_ok-insert.ensures.ok)
-    (rw (sym (to_z-of_z w64 c.args.before c.ranges.before)) c.remove.ensures)
+    (rw (sym (to_z-of_z w64 c.args.after c.ranges.after)) c.in_ok-insert.ensures.updates)
+    (rw (sym (to_z-of_z w64 c.args.before c.ranges.before)) c.remove.ensures.updates)

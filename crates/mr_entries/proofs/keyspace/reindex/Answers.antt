@@ -12,4 +12,4 @@ pub returns-in_ok-insert-in-None-Some-clause-ok : goal.returns-in_ok-insert-in-N
 returns-in_ok-insert-in-None-Some-clause-ok c =
     let fits : to_z w64 (of_z w64 c.in-None-Some.after) ≡ c.in-None-Some.after = search rules in
     let s = c.args.timed_keys.now in
-    rw c.in-None-Some.is-1 (comes (record { deadline = c.in-None-Some.after; key = c.args.key }) s c.insert.new.self (subst (λ d. IsDeadlineOf c.args.key d s) c.in-None-Some.is-0 c.requires) (rw (sym fits) c.in_ok-insert-in-None-Some.ensures.ok))
+    rw c.in-None-Some.is-1 (comes (record { deadline = c.in-None-Some.after; key = c.args.key }) s c.insert.new.self (subst (λ d. IsDeadlineOf c.args.key d s) c.in-None-Some.is-0 c.requires) (rw (sym fits) c.in_ok-insert-in-None-Some.ensures.updates))

@@ -15,21 +15,21 @@ invariant_of-self-in-Ok c =
     let absent : get m c.args.key ≡ None = ap (λ x. get x c.args.key) c.self.view_is ∙ c.requires in
     let fits : to_z w64 (of_z w64 c.in-Some.deadline) ≡ c.in-Some.deadline = search rules in
     comes_with m c.args.key c.args.key c.args.entry c.self.inside.timed_keys c.self.invariant absent refl (record { deadline = c.in-Some.deadline; key = c.in_ok-name.name }) c.insert-3.new.self c.insert-2.new.by_key
-    (c.in_ok-name.ensures ∙ c.as_slice.ensures) c.in-Some.is (rw (sym fits) c.in-Ok.ensures.ok) c.in_ok-insert-2.ensures.ok
+    (c.in_ok-name.ensures ∙ c.as_slice.ensures) c.in-Some.is (rw (sym fits) c.in-Ok.ensures.updates) c.in_ok-insert-2.ensures.ok
 
 pub invariant_of-self-in-Err : goal.invariant_of-self-in-Err
 invariant_of-self-in-Err c =
     let m = c.self.inside.by_key in
     let absent : get m c.args.key ≡ None = ap (λ x. get x c.args.key) c.self.view_is ∙ c.requires in
-    let back : c.in_ok-again.again ≡ c.args.key = c.in_ok-again.ensures ∙ c.as_slice-2.ensures in
+    let back : c.in-Err.refused.value.key ≡ c.args.key = ap (λ x. x.key) c.in-Err.ensures.value_returned ∙ c.in_ok-name.ensures ∙ c.as_slice.ensures in
     same_index m c.take_back.new.by_key c.self.inside.timed_keys c.insert-3.new.self c.self.invariant
-    (came_and_went m c.args.key c.args.key c.args.entry c.self.inside.timed_keys c.self.invariant absent refl c.in_ok-again.again c.take_back.new.by_key back (c.take_back.ensures ∙ ap (λ x. remove x c.in_ok-again.again) c.in_ok-insert-2.ensures.ok))
+    (came_and_went m c.args.key c.args.key c.args.entry c.self.inside.timed_keys c.self.invariant absent refl c.in-Err.refused.value.key c.take_back.new.by_key back (c.take_back.ensures ∙ ap (λ x. remove x c.in-Err.refused.value.key) c.in_ok-insert-2.ensures.ok))
     c.in-Err.ensures.err
 
-pub returns-clause-err : goal.returns-clause-err
-returns-clause-err c =
+pub returns-in-Err-clause-err : goal.returns-in-Err-clause-err
+returns-in-Err-clause-err c =
     let m = c.self.inside.by_key in
     let absent : get m c.args.key ≡ None = ap (λ x. get x c.args.key) c.self.view_is ∙ c.requires in
-    let back : c.in_ok-again.again ≡ c.args.key = c.in_ok-again.ensures ∙ c.as_slice-2.ensures in
-    came_and_went m c.args.key c.args.key c.args.entry c.self.inside.timed_keys c.self.invariant absent refl c.in_ok-again.again c.take_back.new.by_key back (c.take_back.ensures ∙ ap (λ x. remove x c.in_ok-again.again) c.in_ok-insert-2.ensures.ok)
+    let back : c.in-Err.refused.value.key ≡ c.args.key = ap (λ x. x.key) c.in-Err.ensures.value_returned ∙ c.in_ok-name.ensures ∙ c.as_slice.ensures in
+    came_and_went m c.args.key c.args.key c.args.entry c.self.inside.timed_keys c.self.invariant absent refl c.in-Err.refused.value.key c.take_back.new.by_key back (c.take_back.ensures ∙ ap (λ x. remove x c.in-Err.refused.value.key) c.in_ok-insert-2.ensures.ok)
     ∙ c.self.view_is
