@@ -253,17 +253,6 @@ impl Slot {
         self.node.unread(name)
     }
 
-    /// How many bytes are unread at the link to its master, which has this name; none where it follows nobody.
-    pub fn unread_of_master(&self, name: LinkId) -> Option<usize>
-        ensures alone { self.now.node.follow ≡ None → result ≡ None }
-        ensures there { self.now.node.follow ≢ None → IsUnread self.now.node name result }
-    {
-        if !self.follows_by(self.dialled) {
-            return None;
-        }
-        self.unread(name)
-    }
-
     /// The node stops.
     pub fn fail(&mut self)
         ensures { self.new ≡ record self.old { node = stopped_as self.old.node } }

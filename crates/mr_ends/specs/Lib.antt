@@ -3,4 +3,3 @@ pub mod Progresses
 pub mod Ending
 pub mod Replicas
 pub mod Parts
-pub mod Introductions

@@ -1,6 +1,6 @@
 -- What is asked of the node, from how it is kept.
 use Rattle.std.proofs.Common.{◌≡◌, ℕ, ℤ, List, true, false, Some, refl, sym, ap, ◌∙◌}
-use Rattle.mr_ends.specs.Introductions.{Said}
+use Rattle.mr_ends.specs.declared.introduction.Introduction.{Introduction}
 use Rattle.mr_cmd_node.specs.declared.node_ask.NodeAsk.{NodeAsk}
 use Rattle.mr_cmd_node.specs.declared.node_ask.NodeAsk.TheVariants as node
 use Rattle.mr_cmd_node.specs.declared.node_ask.ReplicaOption.{ReplicaOption}
@@ -19,7 +19,7 @@ pub of_stream : (wish : NodeAsk) (kept : StreamWish) → IsWish wish (request.St
 of_stream (node.Psync word wanted) kept h = ap (λ z. node.Psync z wanted) (sym h.0) ∙ ap (λ z. node.Psync kept.id.items z) (sym h.1)
 of_stream _ kept h = absurd h
 
-pub of_introduction : (wish : NodeAsk) (introduction : Said) → IsWish wish (request.Introduction introduction) → (told : List (ReplicaOption × List ℕ)) × (wish ≡ node.ReplConf told)
+pub of_introduction : (wish : NodeAsk) (introduction : Introduction) → IsWish wish (request.Introduction introduction) → (told : List (ReplicaOption × List ℕ)) × (wish ≡ node.ReplConf told)
 of_introduction (node.ReplConf told) introduction h = (told, refl)
 of_introduction _ introduction h = absurd h
 

@@ -65,13 +65,17 @@ pub(crate) fn request_of(alloc: Global, ask: &NodeAsk<'_, '_>) -> Result<NodeReq
     }
 }
 
-/// The port and the address among what a replica says of itself; of several the last that may be one.
+/// The port and the address among what a replica says of itself; of several the last.
 fn introduction_of(alloc: Global, told: &Told<'_, '_>) -> Result<Introduction, AllocError> {
     let mut introduction = Introduction::none();
     for (option, value) in told.iter() {
         match option {
-            ReplicaOption::ListeningPort => introduction.name_port(alloc, value)?,
-            ReplicaOption::IpAddress => introduction.name_address(alloc, value)?,
+            ReplicaOption::ListeningPort => {
+                introduction.port = Some(Vec::from_slice(alloc, value)?);
+            }
+            ReplicaOption::IpAddress => {
+                introduction.address = Some(Vec::from_slice(alloc, value)?);
+            }
             ReplicaOption::Capability => {}
         }
     }

@@ -111,7 +111,7 @@ pub record Promotes (a : NodeState) (l : LinkId) (u fresh : List ℕ) (b : NodeS
   pub wish : AsksNode words node.NoOne
   pub core : b.core ≡ record a.core { master = true; offers = true; upstream = None; mark = None; lineage = renamed fresh a.core.lineage }
   pub follow : b.follow ≡ None
-  pub ends : Settles a l b (client rest) (names_of (name_of a.follow))
+  pub ends : Settles a l b (client rest) [] (name_of a.follow)
   pub outs_are : outs ≡ record no_outs { link = Some l; reply = reply_text done; closed = names_of (name_of a.follow); used = Some fresh }
 
 -- REPLICAOF another on a replica: it leaves its master, and is to follow that one.
@@ -127,7 +127,7 @@ pub record Turns (a : NodeState) (l : LinkId) (u : List ℕ) (b : NodeState) (ou
   pub another : a.core.upstream ≢ Some address
   pub core : b.core ≡ record a.core { upstream = Some address }
   pub follow : b.follow ≡ None
-  pub ends : Settles a l b (client rest) (names_of (name_of a.follow))
+  pub ends : Settles a l b (client rest) [] (name_of a.follow)
   pub outs_are : outs ≡ record no_outs { link = Some l; reply = reply_text done; closed = names_of (name_of a.follow); follows = Some address }
 
 -- REPLICAOF another on a master: it is a replica from now on, which offers its own id and offset, and closes its replicas' links.
@@ -143,7 +143,7 @@ pub record Demotes (a : NodeState) (l : LinkId) (u : List ℕ) (b : NodeState) (
   pub core : b.core ≡ record a.core { master = false; offers = true; upstream = Some address; mark = None }
   pub follow : b.follow ≡ None
   pub closed : Lists outs.closed a.ends.open_links
-  pub ends : Settles a l b (client rest) outs.closed
+  pub ends : Settles a l b (client rest) outs.closed None
   pub outs_are : outs ≡ record no_outs { link = Some l; reply = reply_text done; closed = outs.closed; follows = Some address }
 
 -- A client begins a transaction.

@@ -12,11 +12,13 @@ pub record Leaves (a : NodeState) (l : LinkId) (b : NodeState) (e : EndState) : 
   pub others : OthersStay a b l
   pub follow : b.follow ≡ a.follow
 
--- The end of the link is this now. Of the others those of these names are closed, and the rest are what they were.
-pub record Settles (a : NodeState) (l : LinkId) (b : NodeState) (e : EndState) (closed : List LinkId) : Type 0 where
+-- The end of the link is this now. Of the others those of these names are closed, that of the link to the master is gone where it is to go,
+-- and the rest are what they were.
+pub record Settles (a : NodeState) (l : LinkId) (b : NodeState) (e : EndState) (closed : List LinkId) (gone : Option LinkId) : Type 0 where
   pub is : end_of b l ≡ Some e
   pub shuts : (x : LinkId) → is_named closed x ≡ true → end_of b x ≡ Some shut
-  pub others : (x : LinkId) → x ≢ l → is_named closed x ≡ false → end_of b x ≡ end_of a x
+  pub none : (x : LinkId) → gone ≡ Some x → end_of b x ≡ None
+  pub others : (x : LinkId) → x ≢ l → is_named closed x ≡ false → gone ≢ Some x → end_of b x ≡ end_of a x
   pub opened : b.ends.opened ≡ a.ends.opened
 
 -- as a list

@@ -10,8 +10,7 @@ use Rattle.mr_course.specs.Rows.{Listens}
 use Rattle.mr_course.specs.declared.upstream.UpstreamStep.{UpstreamStep}
 use Rattle.mr_course.specs.declared.upstream.UpstreamStep.TheVariants as outcome
 use Rattle.mr_course.specs.declared.upstream.UpstreamFault.TheVariants as fault
-use Rattle.mr_ends.specs.State.{EndState, put_end}
-use Rattle.mr_ends.specs.State.EndState.{shut}
+use Rattle.mr_ends.specs.State.{EndState, without}
 use Rattle.mr_outs.specs.Outs.{OutsState, no_outs}
 use Rattle.mr_rows.specs.State.{NodeState, course_of, stopped_as}
 
@@ -23,7 +22,7 @@ beat = text effect.Ping
 abbrev pub filed : List ℕ → List ℕ
 filed told = if bytes_eq told beat then [] else told
 
--- the node's end is closed where the master is left
+-- the node's end goes where the master is left
 abbrev pub ends_behind : UpstreamStep → LinkId → Links EndState → Links EndState
 ends_behind outcome.Idle name ends = ends
 ends_behind outcome.Said name ends = ends
@@ -31,8 +30,8 @@ ends_behind outcome.Announced name ends = ends
 ends_behind outcome.Continued name ends = ends
 ends_behind outcome.Loaded name ends = ends
 ends_behind outcome.Applied name ends = ends
-ends_behind outcome.Left name ends = put_end ends name shut
-ends_behind outcome.Spoiled name ends = put_end ends name shut
+ends_behind outcome.Left name ends = without ends name
+ends_behind outcome.Spoiled name ends = without ends name
 
 -- A line is sent; the file is replaced by what rebuilds a snapshot's dataset; the text of a group goes behind the file; or the link is closed.
 abbrev pub outs_behind : UpstreamStep → LinkId → List ℕ → OutsState

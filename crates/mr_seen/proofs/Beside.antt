@@ -1,20 +1,20 @@
 -- What a step leaves of the ends beside its own; and what is open at its own before it.
-use Rattle.std.proofs.Common.{◌≡◌, ◌≢◌, ℕ, List, Bool, true, false, cond, Option, None, Some, refl, sym, ap, ◌∙◌}
+use Rattle.std.proofs.Common.{◌≡◌, ◌≢◌, ℕ, List, [], Bool, true, false, cond, Option, None, Some, refl, sym, ap, ◌∙◌}
 use Rattle.std.specs.FinMap.{get, get-insert, get-remove}
 use Rattle.mr_links.specs.declared.link_id.LinkId.{LinkId}
 use Rattle.mr_links.specs.Links.{Links}
 use Rattle.mr_links.proofs.LinkRows.{ids_total}
 use Rattle.mr_data.specs.declared.given.Given.{Given}
+use Rattle.mr_follow.specs.State.{FollowState}
 use Rattle.mr_course.specs.State.{name_of}
 use Rattle.mr_course.specs.declared.upstream.UpstreamStep.{UpstreamStep}
 use Rattle.mr_course.specs.declared.upstream.UpstreamStep.TheVariants as outcome
-use Rattle.mr_ends.specs.State.{EndState, Transaction, end_at, opened_as, put_end, without}
-use Rattle.mr_ends.specs.State.EndState.{client, waiting, replica, shut, upstream}
+use Rattle.mr_ends.specs.State.{EndState, Transaction, end_at, opened_as, without}
+use Rattle.mr_ends.specs.State.EndState.{client, waiting, replica, upstream}
 use Rattle.mr_ends.proofs.Naming.{at_or_other}
 use Rattle.mr_outs.specs.Outs.{OutsState, Output}
-use Rattle.mr_rows.specs.State.{Agrees, AgreesWithin, Core, NodeState, OthersStay, end_of}
-use Rattle.mr_ends.specs.Replicas.{is_named}
-use Rattle.mr_rows.specs.Ends.{Settles, names_of}
+use Rattle.mr_rows.specs.State.{Agrees, AgreesWithin, Core, NodeState, FollowedAt, OthersStay, end_of}
+use Rattle.mr_rows.specs.Ends.{Settles}
 use Rattle.mr_rows.specs.Telling.{Around}
 use Rattle.mr_rows.specs.Served.{Answered, Served}
 use Rattle.mr_rows.specs.ClientRows.{ClientRow}
@@ -34,6 +34,16 @@ pub served_apart : (streams : Bool) (held : Option Transaction) (u : List ℕ) �
 served_apart true held u e = absurd (cc)
 served_apart false None u e = absurd (cc)
 served_apart false (Some t) u e = absurd (cc)
+
+name_is : (x y : LinkId) → Some x ≡ Some y → x ≡ y
+name_is x y e = cc
+
+no_name : (x : LinkId) → ◌≡◌ {A = Option LinkId} None (Some x) → ⊥
+no_name x e = cc
+
+unfollowed : (a : NodeState) (follow : Option (LinkId × FollowState)) (q : LinkId) (streams : Bool) (held : Option Transaction) (v : List ℕ) → FollowedAt a.ends follow → end_of a q ≡ Some (end_for streams held v) → name_of follow ≢ Some q
+unfollowed a None q streams held v f e n = no_name q n
+unfollowed a (Some g) q streams held v f e n = served_apart streams held v (sym f ∙ (ap (end_of a) (name_is g.0 q n) ∙ e))
 
 -- ---- the rows of a step at an end that is served
 up_answered : (c d : Core) (around : Around) (words : List (List ℕ)) (given : Given) (out : Output) → Answered c around words given d out → d.up ≡ c.up
@@ -55,19 +65,19 @@ module _ (a : NodeState) (name : LinkId) (u : List ℕ) (b : NodeState) (outs : 
   same_core : b.core ≡ a.core → OthersStay a b name → Apart a name b outs
   same_core core others = only (ap (λ (z : Core). z.up) core) others
 
-  -- others are closed as well, of which the outs tell
-  settles : b.core.up ≡ a.core.up → (e : EndState) (closed : List LinkId) → Settles a name b e closed → outs.closed ≡ closed → Apart a name b outs
-  settles up e closed ends told = record { up = up; others = λ q streams held v ne named h. ends.others q ne (sym (ap (λ names. is_named names q) told) ∙ named) ∙ h }
+  -- it leaves its master
+  leaves : FollowedAt a.ends a.follow → b.core.up ≡ a.core.up → (e : EndState) → Settles a name b e [] (name_of a.follow) → Apart a name b outs
+  leaves before up e ends = record { up = up; others = λ q streams held v ne named h. ends.others q ne refl (unfollowed a a.follow q streams held v before h) ∙ h }
 
-  pub apart_client : (given : Given) (fresh : List ℕ) → ClientRow a name u given fresh b outs → Apart a name b outs
-  apart_client given fresh (ClientRow.serves r) = only (up_served a.core b.core r.around u r.rest given r.out r.served) r.leaves.others
-  apart_client given fresh (ClientRow.closes r) = same_core r.core r.others
-  apart_client given fresh (ClientRow.halts r) = same_core r.core r.leaves.others
-  apart_client given fresh (ClientRow.synchronizes r) = same_core r.core r.leaves.others
-  apart_client given fresh (ClientRow.promotes r) = settles (ap (λ (z : Core). z.up) r.core) (client r.rest) (names_of (name_of a.follow)) r.ends (ap (λ (o : OutsState). o.closed) r.outs_are)
-  apart_client given fresh (ClientRow.turns r) = settles (ap (λ (z : Core). z.up) r.core) (client r.rest) (names_of (name_of a.follow)) r.ends (ap (λ (o : OutsState). o.closed) r.outs_are)
-  apart_client given fresh (ClientRow.demotes r) = settles (ap (λ (z : Core). z.up) r.core) (client r.rest) outs.closed r.ends refl
-  apart_client given fresh (ClientRow.begins r) = same_core r.core r.leaves.others
+  pub apart_client : FollowedAt a.ends a.follow → (given : Given) (fresh : List ℕ) → ClientRow a name u given fresh b outs → Apart a name b outs
+  apart_client before given fresh (ClientRow.serves r) = only (up_served a.core b.core r.around u r.rest given r.out r.served) r.leaves.others
+  apart_client before given fresh (ClientRow.closes r) = same_core r.core r.others
+  apart_client before given fresh (ClientRow.halts r) = same_core r.core r.leaves.others
+  apart_client before given fresh (ClientRow.synchronizes r) = same_core r.core r.leaves.others
+  apart_client before given fresh (ClientRow.promotes r) = leaves before (ap (λ (z : Core). z.up) r.core) (client r.rest) r.ends
+  apart_client before given fresh (ClientRow.turns r) = leaves before (ap (λ (z : Core). z.up) r.core) (client r.rest) r.ends
+  apart_client before given fresh (ClientRow.demotes r) = record { up = ap (λ (z : Core). z.up) r.core; others = λ q streams held v ne named h. r.ends.others q ne named (λ n. no_name q n) ∙ h }
+  apart_client before given fresh (ClientRow.begins r) = same_core r.core r.leaves.others
 
   pub apart_within : (t : Transaction) (given : Given) → WithinRow a name t u given b outs → Apart a name b outs
   apart_within t given (WithinRow.stands r) = same_core r.core r.leaves.others
@@ -84,8 +94,8 @@ module _ (a : NodeState) (name : LinkId) (u : List ℕ) (b : NodeState) (outs : 
 pub without_one : (ends : Links EndState) (l q : LinkId) → q ≢ l → end_at (without ends l) q ≡ end_at ends q
 without_one ends l q ne = get-remove ids_total ends.open_links l q ∙ at_or_other q l (λ b. cond b None (get ends.open_links q) ≡ get ends.open_links q) (λ same. absurd (ne same)) (λ other. refl)
 
-with_another : (ends : Links EndState) (l q : LinkId) (e : EndState) → q ≢ l → end_at (put_end ends l e) q ≡ end_at ends q
-with_another ends l q e ne = get-insert ids_total ends.open_links l e q ∙ at_or_other q l (λ b. cond b (Some e) (get ends.open_links q) ≡ get ends.open_links q) (λ same. absurd (ne same)) (λ other. refl)
+with_one : (ends : Links EndState) (l q : LinkId) (e : EndState) → q ≢ l → end_at (opened_as ends l e) q ≡ end_at ends q
+with_one ends l q e ne = get-insert ids_total ends.open_links l e q ∙ at_or_other q l (λ b. cond b (Some e) (get ends.open_links q) ≡ get ends.open_links q) (λ same. absurd (ne same)) (λ other. refl)
 
 no_end : (e : EndState) → ◌≡◌ {A = Option EndState} None (Some e) → ⊥
 no_end e q = cc
@@ -94,20 +104,15 @@ no_end e q = cc
 pub keeps_opened : (a b : NodeState) (l : LinkId) (e : EndState) → end_of a l ≡ None → b.core.up ≡ a.core.up → b.ends ≡ opened_as a.ends l e → KeepsEnds a b
 keeps_opened a b l e fresh runs ends = record {
   up = runs;
-  all = λ q streams held v h. ap (λ z. end_at z q) ends ∙ (with_another a.ends l q e (λ same. no_end (end_for streams held v) (sym fresh ∙ (ap (end_of a) (sym same) ∙ h))) ∙ h);
+  all = λ q streams held v h. ap (λ z. end_at z q) ends ∙ (with_one a.ends l q e (λ same. no_end (end_for streams held v) (sym fresh ∙ (ap (end_of a) (sym same) ∙ h))) ∙ h);
 }
 
--- ---- the end of the link to the master goes, or is closed
+-- ---- a step at the link to the master
+-- without that link's end the others stay
 pub keeps_without : (a b : NodeState) (l : LinkId) → end_of a l ≡ Some upstream → b.core.up ≡ a.core.up → b.ends ≡ without a.ends l → KeepsEnds a b
 keeps_without a b l up runs ends = record {
   up = runs;
   all = λ q streams held v e. ap (λ z. end_at z q) ends ∙ (without_one a.ends l q (λ same. served_apart streams held v (sym up ∙ (ap (end_of a) (sym same) ∙ e))) ∙ e);
-}
-
-keeps_shut : (a b : NodeState) (l : LinkId) → end_of a l ≡ Some upstream → b.core.up ≡ a.core.up → b.ends ≡ put_end a.ends l shut → KeepsEnds a b
-keeps_shut a b l up runs ends = record {
-  up = runs;
-  all = λ q streams held v e. ap (λ z. end_at z q) ends ∙ (with_another a.ends l q shut (λ same. served_apart streams held v (sym up ∙ (ap (end_of a) (sym same) ∙ e))) ∙ e);
 }
 
 -- where all ends are what they were
@@ -121,8 +126,8 @@ keeps_behind a b outcome.Announced l up runs ends = keeps_all a b runs ends
 keeps_behind a b outcome.Continued l up runs ends = keeps_all a b runs ends
 keeps_behind a b outcome.Loaded l up runs ends = keeps_all a b runs ends
 keeps_behind a b outcome.Applied l up runs ends = keeps_all a b runs ends
-keeps_behind a b outcome.Left l up runs ends = keeps_shut a b l up runs ends
-keeps_behind a b outcome.Spoiled l up runs ends = keeps_shut a b l up runs ends
+keeps_behind a b outcome.Left l up runs ends = keeps_without a b l up runs ends
+keeps_behind a b outcome.Spoiled l up runs ends = keeps_without a b l up runs ends
 
 -- ---- what is open at an end before a step
 client_for : (b : Bool) (held : Option Transaction) (u v : List ℕ) → Some (client u) ≡ Some (end_for b held v) → b ≡ false

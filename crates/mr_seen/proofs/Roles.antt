@@ -263,4 +263,4 @@ module _ (w : WorldState) (book : Book minired) (l : ℕ) (k : Link) (s : Slot) 
 pub client_steps : ClientStepsAreRows
 client_steps w book l k s given fresh b outs holds served agrees undrawn r =
     let at = at_client w holds.world l k s served (unread k.ask) agrees in
-    client_row w book l k s given fresh b outs holds served at.0 (apart_client s.node k.name (unread k.ask) b outs given fresh r) at.1 undrawn r
+    client_row w book l k s given fresh b outs holds served at.0 (apart_client s.node k.name (unread k.ask) b outs (holds.world.nodes k.to s served.at served.up).node.followed given fresh r) at.1 undrawn r

@@ -95,7 +95,7 @@ module _ (a : NodeState) (name : LinkId) (u : List ℕ) (b : NodeState) (outs : 
 
 pub clients_keep : ClientStepsKeepWorlds
 clients_keep w l k s given fresh b outs is served sound r =
-    let apart = apart_client s.node k.name (unread k.ask) b outs given fresh r in
+    let apart = apart_client s.node k.name (unread k.ask) b outs (is.nodes k.to s served.at served.up).node.followed given fresh r in
     kept_stepped w is l k s b outs served (turned_client s.node k.name (unread k.ask) b outs sound given fresh apart r)
 
 pub within_keep : WithinStepsKeepWorlds

@@ -18,7 +18,7 @@ use Rattle.mr_ends.proofs.Naming.{heard_streams, used_streams}
 use Rattle.mr_outs.specs.Address.{AddressState}
 use Rattle.mr_rows.specs.State.{Agrees, IsNode, NodeState}
 use Rattle.mr_rows.specs.LinkRows.{Opens, follow_without}
-use Rattle.mr_state.specs.Parts.{Commits, Holds, node_of, streams_on, shut_one, with_ends}
+use Rattle.mr_state.specs.Parts.{Commits, Holds, node_of, streams_on, with_ends, without_one}
 use Rattle.mr_state.specs.Listening.{is_name}
 use Rattle.mr_state.proofs.Nodes.{alone_node, closed_node, dialled_node, get_put, opened_node, put_node, unopened_node}
 
@@ -137,15 +137,15 @@ module _ (up : Bool) (port : ℕ) (told : Option AddressState) (mark : Option �
       dropped (Some f) h = ap (λ b. cond b None (Some f)) h
 
   -- .. of the link to the master
-  pub promotes_node : (fresh : List ℕ) (told_now : Option AddressState) (mark_now : Option ℤ) (d : CourseState) (name : Option LinkId) (after : Links EndState) → d ≡ promoted fresh c → name ≡ name_of c.follow → after ≡ shut_one name ends
+  pub promotes_node : (fresh : List ℕ) (told_now : Option AddressState) (mark_now : Option ℤ) (d : CourseState) (name : Option LinkId) (after : Links EndState) → d ≡ promoted fresh c → name ≡ name_of c.follow → after ≡ without_one name ends
       → IsNode (node_of up port told_now mark_now d m after)
   promotes_node fresh told_now mark_now d name after is named gone = subst (λ z. IsNode (node_of up port told_now mark_now z m after)) (sym is)
-      (subst (λ z. IsNode (node_of up port told_now mark_now (promoted fresh c) m z)) (sym (gone ∙ ap (λ n. shut_one n ends) named))
+      (subst (λ z. IsNode (node_of up port told_now mark_now (promoted fresh c) m z)) (sym (gone ∙ ap (λ n. without_one n ends) named))
       (alone_node (node_of up port told mark c m ends) (node_of up port told_now mark_now (promoted fresh c) m ends).core i (λ q. refl)))
 
-  pub turns_node : (told_now : Option AddressState) (d : CourseState) (name : Option LinkId) (after : Links EndState) → d ≡ left c → name ≡ name_of c.follow → after ≡ shut_one name ends → IsNode (node_of up port told_now mark d m after)
+  pub turns_node : (told_now : Option AddressState) (d : CourseState) (name : Option LinkId) (after : Links EndState) → d ≡ left c → name ≡ name_of c.follow → after ≡ without_one name ends → IsNode (node_of up port told_now mark d m after)
   turns_node told_now d name after is named gone = subst (λ z. IsNode (node_of up port told_now mark z m after)) (sym is)
-      (subst (λ z. IsNode (node_of up port told_now mark (left c) m z)) (sym (gone ∙ ap (λ n. shut_one n ends) named))
+      (subst (λ z. IsNode (node_of up port told_now mark (left c) m z)) (sym (gone ∙ ap (λ n. without_one n ends) named))
       (alone_node (node_of up port told mark c m ends) (node_of up port told_now mark (left c) m ends).core i (λ q. q)))
 
 -- ---- effects

@@ -12,11 +12,10 @@ use Rattle.mr_course.specs.declared.upstream.UpstreamStep.{UpstreamStep}
 use Rattle.mr_course.specs.declared.upstream.UpstreamStep.TheVariants as outcome
 use Rattle.mr_course.specs.declared.upstream.UpstreamFault.{UpstreamFault}
 use Rattle.mr_course.specs.declared.upstream.UpstreamFault.TheVariants as fault
-use Rattle.mr_ends.specs.State.{EndState, put_end}
-use Rattle.mr_ends.specs.State.EndState.{shut}
+use Rattle.mr_ends.specs.State.{EndState, without}
 use Rattle.mr_outs.specs.Address.{AddressState}
 use Rattle.mr_rows.specs.State.{IsNode, NodeState}
-use Rattle.mr_state.specs.Parts.{node_of, shut_one}
+use Rattle.mr_state.specs.Parts.{node_of, without_one}
 use Rattle.mr_state.specs.Listening.{Heard, ends_after, up_after}
 use Rattle.mr_state.proofs.Nodes.{alone_node, reading_node}
 
@@ -29,8 +28,8 @@ module _ (up : Bool) (port : ℕ) (upstream_is : Option AddressState) (mark : Op
   reading : (up_now : Bool) (g : FollowState) (offers : Bool) (a : LineageState) (n : Dataset) → IsNode (node_of up_now port upstream_is mark (record { master = c.master; offers = offers; lineage = a; follow = Some (name, g) }) n ends)
   reading up_now g offers a n = reading_node (node_of up port upstream_is mark c m ends) (node_of up_now port upstream_is mark (record { master = c.master; offers = offers; lineage = a; follow = Some (name, g) }) n ends).core name f g i found refl
 
-  leaving : (offers : Bool) (n : Dataset) → IsNode (node_of up port upstream_is mark (record c { offers = offers; follow = None }) n (put_end ends name shut))
-  leaving offers n = subst (λ z. IsNode (node_of up port upstream_is mark (record c { offers = offers; follow = None }) n (shut_one z ends))) (ap name_of found)
+  leaving : (offers : Bool) (n : Dataset) → IsNode (node_of up port upstream_is mark (record c { offers = offers; follow = None }) n (without ends name))
+  leaving offers n = subst (λ z. IsNode (node_of up port upstream_is mark (record c { offers = offers; follow = None }) n (without_one z ends))) (ap name_of found)
       (alone_node (node_of up port upstream_is mark c m ends) (node_of up port upstream_is mark (record c { offers = offers; follow = None }) n ends).core i (λ q. q))
 
   heard_node : (r : Result UpstreamStep UpstreamFault) (u : List ℕ) (g : FollowState) (d : CourseState) (n : Dataset) (told : List ℕ) → UpstreamRow c m name f u g r d n told
@@ -41,8 +40,8 @@ module _ (up : Bool) (port : ℕ) (upstream_is : Option AddressState) (mark : Op
   heard_node (Ok outcome.Continued) u g d n told r = subst (λ z. IsNode (node_of up port upstream_is mark z n ends)) (sym r.is) (reading up g c.offers (continues_as r.id c).lineage n)
   heard_node (Ok outcome.Loaded) u g d n told r = subst (λ z. IsNode (node_of up port upstream_is mark z n ends)) (sym r.is) (reading up g true (adopts r.installs.id r.installs.offset c).lineage n)
   heard_node (Ok outcome.Applied) u g d n told r = subst (λ z. IsNode (node_of up port upstream_is mark z n ends)) (sym r.is) (reading up g c.offers (grows told c).lineage n)
-  heard_node (Ok outcome.Left) u g d n told r = subst (λ z. IsNode (node_of up port upstream_is mark z n (put_end ends name shut))) (sym r.is) (leaving c.offers n)
-  heard_node (Ok outcome.Spoiled) u g d n told r = subst (λ z. IsNode (node_of up port upstream_is mark z n (put_end ends name shut))) (sym r.is) (leaving false n)
+  heard_node (Ok outcome.Left) u g d n told r = subst (λ z. IsNode (node_of up port upstream_is mark z n (without ends name))) (sym r.is) (leaving c.offers n)
+  heard_node (Ok outcome.Spoiled) u g d n told r = subst (λ z. IsNode (node_of up port upstream_is mark z n (without ends name))) (sym r.is) (leaving false n)
   heard_node (Err fault.Memory) u g d n told r = subst (λ z. IsNode (node_of up port upstream_is mark z n ends)) (sym r.is) (reading up g c.offers c.lineage n)
   heard_node (Err fault.Stopped) u g d n told r = subst (λ z. IsNode (node_of false port upstream_is mark z n ends)) (sym r.is) (reading false g c.offers c.lineage n)
 

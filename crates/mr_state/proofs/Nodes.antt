@@ -1,6 +1,5 @@
 -- What is true of each node stays so.
 use Rattle.std.proofs.Common.{◌≡◌, ℕ, List, true, false, cond, Option, None, Some, refl, sym, ap, subst, ◌∙◌}
-use Rattle.std.specs.Prelude.{IsSome}
 use Rattle.std.specs.FinMap.{FinMap, get, get-insert, get-remove, insert}
 use Rattle.mr_links.specs.LinkId.{id_cmp}
 use Rattle.mr_links.specs.Links.{Links}
@@ -14,7 +13,7 @@ use Rattle.mr_ends.specs.Replicas.{shut_where, ShutsReplicas}
 use Rattle.mr_ends.proofs.Naming.{at_or_not, at_or_other, silent}
 use Rattle.mr_rows.specs.State.{Core, NodeState, FollowedAt, IsNode}
 use Rattle.mr_rows.specs.LinkRows.{follow_without}
-use Rattle.mr_state.specs.Parts.{HasOne, shut_one}
+use Rattle.mr_state.specs.Parts.{without_one}
 
 no_true : false ≡ true → ⊥
 no_true e = cc
@@ -95,29 +94,18 @@ dialled_node a l f i alone follows = record {
 }
 
 -- ---- an end that goes
--- the end of the link to the master is there
-pub has_followed : (ends : Links EndState) (f : Option (LinkId × FollowState)) (name : Option LinkId) → FollowedAt ends f → name ≡ name_of f → HasOne name ends
-has_followed ends f name at is = subst (λ n. HasOne n ends) (sym is) (there f at)
-  where
-    there : (g : Option (LinkId × FollowState)) → FollowedAt ends g → HasOne (name_of g) ends
-    there None h = tt
-    there (Some g) h = subst IsSome (sym h) tt
-
 only_gone : (m : Links EndState) (f : Option (LinkId × FollowState)) → ((x : LinkId) → get m.open_links x ≡ Some upstream → name_of f ≡ Some x) → (x : LinkId)
-    → get (shut_one (name_of f) m).open_links x ≡ Some upstream → ◌≡◌ {A = Option LinkId} None (Some x)
+    → get (without_one (name_of f) m).open_links x ≡ Some upstream → ◌≡◌ {A = Option LinkId} None (Some x)
 only_gone m None h x q = h x q
-only_gone m (Some f) h x q = at_or_other x f.0 (λ b. cond b (Some shut) (get m.open_links x) ≡ Some upstream → ◌≡◌ {A = Option LinkId} None (Some x))
-    (λ is z. absurd (no_shut z)) (λ ne z. absurd (ne (sym (some_is f.0 x (h x z))))) (sym (get-insert ids_total m.open_links f.0 shut x) ∙ q)
-  where
-    no_shut : ◌≡◌ {A = Option EndState} (Some shut) (Some upstream) → ⊥
-    no_shut e = cc
+only_gone m (Some f) h x q = at_or_other x f.0 (λ b. cond b None (get m.open_links x) ≡ Some upstream → ◌≡◌ {A = Option LinkId} None (Some x))
+    (λ is z. absurd (none_some upstream z)) (λ ne z. absurd (ne (sym (some_is f.0 x (h x z))))) (sym (get-remove ids_total m.open_links f.0 x) ∙ q)
 
-sends_gone : (m : Links EndState) (n : Option LinkId) (P : Type 0) → ((x : LinkId) → streams (get m.open_links x) ≡ true → P) → (x : LinkId) → streams (get (shut_one n m).open_links x) ≡ true → P
+sends_gone : (m : Links EndState) (n : Option LinkId) (P : Type 0) → ((x : LinkId) → streams (get m.open_links x) ≡ true → P) → (x : LinkId) → streams (get (without_one n m).open_links x) ≡ true → P
 sends_gone m None P h x q = h x q
-sends_gone m (Some n) P h x q = at_or_not x n (λ b. streams (cond b (Some shut) (get m.open_links x)) ≡ true → P) (λ is z. absurd (no_true z)) (λ z. h x z) (ap streams (sym (get-insert ids_total m.open_links n shut x)) ∙ q)
+sends_gone m (Some n) P h x q = at_or_not x n (λ b. streams (cond b None (get m.open_links x)) ≡ true → P) (λ is z. absurd (no_true z)) (λ z. h x z) (ap streams (sym (get-remove ids_total m.open_links n x)) ∙ q)
 
 -- that of the link to the master
-pub alone_node : (a : NodeState) (core : Core) → IsNode a → (a.core.master ≡ true → core.master ≡ true) → IsNode (record { core = core; ends = shut_one (name_of a.follow) a.ends; follow = None })
+pub alone_node : (a : NodeState) (core : Core) → IsNode a → (a.core.master ≡ true → core.master ≡ true) → IsNode (record { core = core; ends = without_one (name_of a.follow) a.ends; follow = None })
 alone_node a core i same = record {
   followed = tt;
   only = only_gone a.ends a.follow i.only;

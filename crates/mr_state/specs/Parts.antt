@@ -1,5 +1,5 @@
 -- What becomes of what a node holds.
-use Rattle.std.specs.Prelude.{◌≡◌, ◌≢◌, ℕ, ℤ, List, [], Bool, true, false, Option, None, Some, IsSome}
+use Rattle.std.specs.Prelude.{◌≡◌, ◌≢◌, ℕ, ℤ, List, [], Bool, true, false, Option, None, Some}
 use Rattle.mr_links.specs.Links.{Links}
 use Rattle.mr_links.specs.declared.link_id.LinkId.{LinkId}
 use Rattle.mr_entries.specs.Dataset.{Dataset}
@@ -8,8 +8,8 @@ use Rattle.mr_effect.specs.declared.effect.Effect.{Effect}
 use Rattle.mr_repl.specs.Lineage.{grown, renamed}
 use Rattle.mr_follow.specs.State.{started}
 use Rattle.mr_course.specs.State.{CourseState, name_of, hears_more, offer_of}
-use Rattle.mr_ends.specs.State.{EndState, end_at, put_end, opened_as}
-use Rattle.mr_ends.specs.State.EndState.{shut, upstream}
+use Rattle.mr_ends.specs.State.{EndState, without, opened_as}
+use Rattle.mr_ends.specs.State.EndState.{upstream}
 use Rattle.mr_ends.specs.Replicas.{ShutsReplicas}
 use Rattle.mr_outs.specs.Address.{AddressState}
 use Rattle.mr_rows.specs.State.{NodeState, spent_as}
@@ -39,19 +39,14 @@ dialled_as l a = record a { ends = opened_as a.ends l upstream; follow = Some (l
 abbrev pub fed_as : List ℕ → NodeState → NodeState
 fed_as bytes a = record a { follow = hears_more bytes a.follow }
 
--- the end of this name is there, if there is a name
-abbrev pub HasOne : Option LinkId → Links EndState → Type 0
-HasOne None ends = Unit {0}
-HasOne (Some name) ends = IsSome (end_at ends name)
+-- the ends without that of this name, if there is a name
+abbrev pub without_one : Option LinkId → Links EndState → Links EndState
+without_one None ends = ends
+without_one (Some name) ends = without ends name
 
--- .. and is closed
-abbrev pub shut_one : Option LinkId → Links EndState → Links EndState
-shut_one None ends = ends
-shut_one (Some name) ends = put_end ends name shut
-
--- Nobody is followed: the end of the link to the master is closed.
+-- Nobody is followed: the end of the link to the master is gone.
 abbrev pub alone : NodeState → NodeState
-alone a = record a { ends = shut_one (name_of a.follow) a.ends; follow = None }
+alone a = record a { ends = without_one (name_of a.follow) a.ends; follow = None }
 
 -- .. and the node is a master, whose stream goes on under a fresh id
 abbrev pub promoted_as : List ℕ → NodeState → NodeState

@@ -183,8 +183,16 @@ fn seen(end: Option<&LinkEnd>) -> Replica<'_> {
     };
     let said = end.introduction();
     Replica {
-        address: said.address(),
-        port: said.port(),
+        address: option_slice(&said.address),
+        port: option_slice(&said.port),
         acknowledged: Some(end.acknowledged()),
+    }
+}
+
+/// The bytes of a word, if there is one.
+fn option_slice(word: &Option<Vec<u8>>) -> Option<&[u8]> {
+    match word {
+        None => None,
+        Some(word) => Some(word.as_slice()),
     }
 }

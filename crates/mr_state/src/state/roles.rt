@@ -1,6 +1,6 @@
 // Whom a node follows, or nobody.
 ghost use Rattle.std.specs.Prelude.{◌≡◌, true};
-ghost use Rattle.mr_state.specs.Parts.{HasOne, Obeys, promoted_as, shut_one, turned_to};
+ghost use Rattle.mr_state.specs.Parts.{Obeys, promoted_as, turned_to, without_one};
 
 use crate::state::State;
 use mr_ends::Ends;
@@ -9,21 +9,21 @@ use mr_outs::Address;
 use mr_repl::ReplId;
 
 impl State {
-    /// The node is a master from now on. The end of the link to its master is closed, and its stream goes on under a fresh id.
+    /// The node is a master from now on. The link to its master is gone, and its stream goes on under a fresh id.
     pub fn promote(&mut self, fresh: ReplId)
         ensures { self.new ≡ promoted_as fresh self.old }
     {
-        shut_one(&mut self.ends, self.course.name());
+        remove_one(&mut self.ends, self.course.name());
         self.course.promote(fresh);
         self.upstream = None;
         self.mark = None;
     }
 
-    /// A replica is to follow another. The end of the link to its master is closed.
+    /// A replica is to follow another. The link to its master is gone.
     pub fn turn(&mut self, address: Address)
         ensures { self.new ≡ turned_to address self.old }
     {
-        shut_one(&mut self.ends, self.course.name());
+        remove_one(&mut self.ends, self.course.name());
         self.course.leave();
         self.upstream = Some(address);
     }
@@ -40,13 +40,12 @@ impl State {
     }
 }
 
-/// Closes the end of this name, if there is one.
-fn shut_one(ends: &mut Ends, name: Option<LinkId>)
-    requires { HasOne name ends.old }
-    ensures { ends.new ≡ shut_one name ends.old }
+/// Takes the end of this name out, if there is one.
+fn remove_one(ends: &mut Ends, name: Option<LinkId>)
+    ensures { ends.new ≡ without_one name ends.old }
 {
     let Some(name) = name else {
         return;
     };
-    ends.shut(name);
+    ends.remove(name);
 }

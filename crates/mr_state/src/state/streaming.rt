@@ -4,7 +4,6 @@ ghost use Rattle.std.specs.List.{AllByRecursion};
 ghost use Rattle.mr_effect.specs.Spelling.{texts};
 ghost use Rattle.mr_entries.specs.Changes.{NeedsNoMemory};
 ghost use Rattle.mr_repl.specs.Backlog.{offset_limit};
-ghost use Rattle.mr_ends.specs.State.{end_at};
 ghost use Rattle.mr_rows.specs.State.{stopped_as};
 ghost use Rattle.mr_rows.specs.UpstreamRows.{ends_behind};
 ghost use Rattle.mr_state.specs.Parts.{Commits, Holds, Leads, Spends, marked_at, streams_on};
@@ -103,13 +102,12 @@ impl State {
     }
 }
 
-/// The end of the link to the master is closed where the master is left.
+/// The end of the link to the master goes where the master is left.
 fn settle(ends: &mut Ends, step: UpstreamStep, name: LinkId)
-    requires { IsSome (end_at ends.old name) }
     ensures { ends.new ≡ ends_behind step name ends.old }
 {
     match step {
-        UpstreamStep::Left | UpstreamStep::Spoiled => ends.shut(name),
+        UpstreamStep::Left | UpstreamStep::Spoiled => ends.remove(name),
         UpstreamStep::Idle
         | UpstreamStep::Said
         | UpstreamStep::Announced

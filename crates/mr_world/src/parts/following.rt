@@ -34,7 +34,7 @@ impl Parts {
         }
         match self.slots[n].step(name, given, fresh) {
             Ok(Step::Done(outs)) => {
-                let left = self.slots[n].unread_of_master(name);
+                let left = self.slots[n].unread(name);
                 let heard = give_heard(alloc, &mut self.slots[n], &mut self.links[l], left, &outs);
                 if heard.is_err() {
                     self.slots[n].fail();

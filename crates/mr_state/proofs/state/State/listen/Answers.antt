@@ -1,5 +1,5 @@
 use Rattle.std.proofs.Common.{◌∙◌, ap, subst, sym}
-use Rattle.std.specs.Prelude.{Err, Ok, Result, Some}
+use Rattle.std.specs.Prelude.{Err, Ok, Result}
 use Rattle.mr_links.specs.declared.link_id.LinkId.{LinkId}
 use Rattle.mr_course.specs.Rows.{Listens}
 use Rattle.mr_course.specs.declared.upstream.UpstreamFault.{UpstreamFault}
@@ -11,11 +11,7 @@ use Rattle.mr_rows.specs.UpstreamRows.{ends_behind}
 use Rattle.mr_state.specs.Listening.{Heard}
 use Rattle.mr_state.specs.Parts.{node_of}
 use Rattle.mr_state.proofs.Listening.{heard_of, listened_node, same_name}
-use Rattle.mr_state.proofs.Nodes.{has_followed}
 use Rattle.mr_state.proofs.state.State.listen.Goals as goal
-
-pub settle-requires : goal.settle-requires
-settle-requires c = has_followed c.self.inside.ends c.self.inside.course.follow (Some c.in-Some.name) c.self.invariant.followed (sym c.in-Some.is ∙ c.name.ensures.value)
 
 pub invariant_of-self-in-Ok : goal.invariant_of-self-in-Ok
 invariant_of-self-in-Ok c =

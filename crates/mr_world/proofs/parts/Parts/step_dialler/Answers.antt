@@ -100,12 +100,12 @@ returns-else-is_err c =
     let row = subst (λ r. MasterStep who.slot.node c.in-Some.name c.step.new.self.node r) (c.in-Ok-Done.is ∙ ap Ok c.in-Ok-Done.field-0-is)
     (comes_to w c.args.l c.in-Some.n c.in-Some.name world who c.index_mut.result.now c.step.new.self c.index_mut.ensures.value c.step.ensures.rest c.args.given c.args.fresh c.step.result c.step.ensures.row) in
     let slot : c.give_heard-heard.new.slot ≡ record c.index_mut-in-Ok-Done.result.now { file = filed c.in-Ok-Done.outs c.index_mut-in-Ok-Done.result.now.file } = search rules in
-    let link : c.give_heard-heard.new.link ≡ heard_by c.unread_of_master-left.result c.in-Ok-Done.outs.reply c.index_mut-in-Ok-Done-2.result.now = search rules in (
+    let link : c.give_heard-heard.new.link ≡ heard_by c.unread-left.result c.in-Ok-Done.outs.reply c.index_mut-in-Ok-Done-2.result.now = search rules in (
       fresh,
       subst (λ (z : WorldState). Follows z c.args.l (record w { slots = slice_set (slice_set w.slots c.in-Some.n c.step.new.self) c.in-Some.n c.give_heard-heard.new.slot; links = slice_set w.links c.args.l c.give_heard-heard.new.link })) c.self.view_is
           (carried w c.args.l c.in-Some.n c.in-Some.name world who c.index_mut.result.now c.step.new.self c.index_mut.ensures.value c.step.ensures.rest row.0 row.1 c.in-Ok-Done.outs row.2 c.step.ensures.sound
-          c.index-in-Ok-Done.result.now c.index_mut-in-Ok-Done.result.now c.give_heard-heard.new.slot c.unread_of_master-left.result c.index_mut-in-Ok-Done-2.result.now c.give_heard-heard.new.link
-          c.index-in-Ok-Done.ensures c.unread_of_master-left.ensures.alone c.unread_of_master-left.ensures.there c.index_mut-in-Ok-Done.ensures.value slot c.index_mut-in-Ok-Done-2.ensures.value link),
+          c.index-in-Ok-Done.result.now c.index_mut-in-Ok-Done.result.now c.give_heard-heard.new.slot c.unread-left.result c.index_mut-in-Ok-Done-2.result.now c.give_heard-heard.new.link
+          c.index-in-Ok-Done.ensures c.unread-left.ensures c.index_mut-in-Ok-Done.ensures.value slot c.index_mut-in-Ok-Done-2.ensures.value link),
     )
 
 pub returns-in-Ok-Idle : goal.returns-in-Ok-Idle
