@@ -1,11 +1,10 @@
 // What a node holds.
-ghost use Rattle.std.specs.Prelude.{◌≡◌, ◌<◌, IfOk, IfSome, true, None};
+ghost use Rattle.std.specs.Prelude.{◌≡◌, ◌<◌, IfSome, true, None};
 ghost use Rattle.std.specs.FinMap as map;
 ghost use Rattle.std.specs.Option.{option_copied};
 ghost use Rattle.mr_course.specs.State.{CountsUnread, IsCourse, name_of, phase_of};
 ghost use Rattle.mr_repl.specs.ReplId.{IsId};
 ghost use Rattle.mr_rows.specs.State.{IsNode, course_of};
-ghost use Rattle.mr_rows.specs.Growing.{rebuilt};
 ghost use Rattle.mr_rows.specs.Sound.{IsSound, ports};
 ghost use Rattle.mr_state.specs.Parts.{node_of};
 
@@ -14,7 +13,6 @@ mod roles;
 mod streaming;
 mod waiting;
 
-use crate::held::Held;
 use mr_course::Course;
 use mr_data::Dataset;
 use mr_ends::Ends;
@@ -22,9 +20,8 @@ use mr_follow::Phase;
 use mr_links::LinkId;
 use mr_outs::Address;
 use mr_repl::{Lineage, ReplId};
-use std::alloc::{AllocError, Global};
+use std::alloc::Global;
 use std::marker::Model;
-use std::rc::Rc;
 
 /// What a node holds: its course with its stream, its dataset, its ends of its links, whom it was told to follow, and the moment
 /// from which its next heartbeat or acknowledgement is counted.
@@ -36,7 +33,7 @@ pub struct State {
     upstream: Option<Address>,
     mark: Option<i64>,
     course: Course,
-    held: Held,
+    held: Dataset,
     ends: Ends,
 }
 
@@ -66,7 +63,7 @@ impl State {
             upstream: None,
             mark: None,
             course,
-            held: Held::new(alloc, held),
+            held,
             ends: Ends::new(alloc),
         }
     }
@@ -106,22 +103,7 @@ impl State {
     pub fn held(&self) -> &Dataset
         ensures { result.now ≡ self.now.core.held }
     {
-        self.held.dataset()
-    }
-
-    /// The text of the effects that make its dataset again, made once while the dataset stays the same.
-    pub fn copy(&mut self) -> Result<Rc<Vec<u8>>, AllocError>
-        ensures text { IfOk result (λ t. t.value.items ≡ rebuilt self.old.core.held) }
-        ensures same { self.new ≡ self.old }
-    {
-        self.held.text()
-    }
-
-    /// A while has passed: the text that makes its dataset again goes where nobody asked for it meanwhile.
-    pub fn forget_copy(&mut self)
-        ensures { self.new ≡ self.old }
-    {
-        self.held.forget_text();
+        &self.held
     }
 
     /// Whom it was told to follow, since it was started or promoted.

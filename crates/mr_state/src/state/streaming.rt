@@ -73,7 +73,7 @@ impl State {
         let Some(name) = self.course.name() else {
             unreachable!()
         };
-        match self.held.listen(&mut self.course, out) {
+        match self.course.listen(self.alloc, &mut self.held, out) {
             Err(UpstreamFault::Memory) => Err(UpstreamFault::Memory),
             Err(UpstreamFault::Stopped) => {
                 self.up = false;
