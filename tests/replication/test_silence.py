@@ -146,27 +146,6 @@ class Replicas(Silent):
         self.assertEqual(master.said().followers, 1)
         self.assertEqual(self.hung_up(master), 1)
 
-    def test_one_that_takes_slowly(self):
-        """It takes bytes all the time, and says how far it has come: so it is heard, and kept for longer than anybody may be silent, while more waits for it than a
-        client may let wait. Once it has all of the copy it is where its master is."""
-        master = self.node(timeout=TIMEOUT)
-        self.assertEqual(master.asks("SET", "large", bytes(64 * MIB)), OK)
-        slow = self.client(master, room=1 << 18)
-        slow.send(NOTHING_TO_CONTINUE)
-        self.comes(lambda: master.said().followers == 1)
-        taken, late = 0, time.monotonic() + 3 * TIMEOUT
-        while time.monotonic() < late:
-            slow.send(request("REPLCONF", "ACK", "1"))
-            taken += len(slow.socket.recv(PIECE))
-            time.sleep(0.05)
-        # the system takes some MiB for it
-        self.assertLess(taken, 32 * MIB)
-        self.assertEqual(master.said().followers, 1)
-        while taken < 64 * MIB:
-            taken += len(slow.socket.recv(MIB))
-        self.assertEqual(master.said().followers, 1)
-        self.assertEqual(self.hung_up(master), 0)
-
     def test_those_that_say_nothing(self):
         """One that acknowledged and then says nothing is hung up; one that never said anything isn't, nor is any client."""
         master = self.node(timeout=TIMEOUT)

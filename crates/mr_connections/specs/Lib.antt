@@ -1,4 +1,3 @@
 pub mod Lends
-pub mod Patience
 pub mod State
 pub mod Table

@@ -42,12 +42,12 @@ pub record IsBurdened (a : NodeState) (o : LoopState) (socket link : LinkId) : T
   pub is : connection_at o socket ≡ Some connection
   pub too_much : most_unsent < length connection.waiting
 
--- A connection is there with this link, and more may be read of it: of a client only where at most so much waits for it.
-pub record IsRead (a : NodeState) (o : LoopState) (socket link : LinkId) : Type 0 where
+-- A connection is there with this link, and more may be read of it.
+pub record IsRead (o : LoopState) (socket link : LinkId) : Type 0 where
   pub connection : ConnectionState
   pub is : connection_at o socket ≡ Some connection
   pub linked : connection.link ≡ Some link
-  pub few : IsClients a link → length connection.waiting ≤ most_kept
+  pub few : length connection.waiting ≤ most_kept
 
 -- ---- the node
 

@@ -1,4 +1,3 @@
-pub mod Lacking
 pub mod Stage
 pub mod Carrying
 pub mod News

@@ -8,7 +8,6 @@ ghost use Rattle.mr_loop.specs.Quiet.{AllWait};
 
 use crate::fault::LoopFault;
 use crate::host::Host;
-use crate::lacking::Asked;
 use mr_file::LogFile;
 use mr_links::LinkId;
 use mr_node::NodeFault;
@@ -16,7 +15,7 @@ use mr_source::Source;
 use mr_wire::Wire;
 
 impl<W: Wire, F: LogFile, S: Source> Host<'_, '_, W, F, S> {
-    /// Dials the master, where the node waits for one and it isn't too soon again: the longer after each dial that led to no stream.
+    /// Dials the master, where the node waits for one and it isn't too soon again.
     pub(crate) fn dial(&mut self) -> Result<(), LoopFault>
         ensures went { GoesAs W.tells W.links W.failures F.told F.synced S.drawn result self.old self.new }
         ensures same { IsSame W.waited self.old self.new }
@@ -24,7 +23,6 @@ impl<W: Wire, F: LogFile, S: Source> Host<'_, '_, W, F, S> {
         ensures quiet { AllWait self.old.node.now → OnOk result (AllWait self.new.node.now) }
     {
         if !self.node.waits() {
-            self.own.note_role(self.node.role());
             return Ok(());
         }
         let now = self.moment.begun;
@@ -56,7 +54,6 @@ impl<W: Wire, F: LogFile, S: Source> Host<'_, '_, W, F, S> {
                 match self.own.join(socket, link) {
                     Ok(()) => self.take(outs),
                     Err(_refused) => {
-                        self.own.lose(Asked::Dial);
                         self.node.close(link);
                         self.wire.close(socket);
                         Ok(())
@@ -68,7 +65,7 @@ impl<W: Wire, F: LogFile, S: Source> Host<'_, '_, W, F, S> {
                 Err(LoopFault::Stopped)
             }
             Err(_refused) => {
-                self.own.lose(Asked::Dial);
+                self.own.lack();
                 self.wire.close(socket);
                 Ok(())
             }

@@ -2,13 +2,10 @@
 ghost use Rattle.std.specs.Prelude.{◌≡◌, ◌≤◌, ◌||◌, [], length, false, true, IfOk, IfSome, IfNone, OnOk, OnErr, None, Some, option_copied};
 ghost use Rattle.std.specs.FinMap as map;
 ghost use Rattle.mr_connections.specs.State.{HasLink, NoneDone, NoneHas, begun, changed, parted, sent, wrote};
-ghost use Rattle.mr_loop.specs.Lacking.{no_lack};
-ghost use Rattle.mr_loop.specs.Stage.{LoopState, committed, connection_at, filed, halting, lacking, losing, with_connections};
+ghost use Rattle.mr_loop.specs.Stage.{LoopState, committed, connection_at, filed, halting, lacking, with_connections};
 
-use crate::lacking::{Asked, Lacked};
-use mr_connections::{Connection, Connections, PIECE, Patience};
+use mr_connections::{Connection, Connections, PIECE};
 use mr_links::LinkId;
-use mr_node::Role;
 use std::alloc::{AllocError, Global};
 use std::hash::RandomState;
 use std::marker::Model;
@@ -16,6 +13,9 @@ use std::mem;
 
 /// A turn waits so many milliseconds at most.
 const LONGEST_WAIT: u64 = 100;
+
+/// So many milliseconds pass before a master that was dialled is dialled again, while the clock moves.
+const REDIAL_AFTER: i64 = 100;
 
 /// More room for what waits for the file isn't kept: as many bytes as a turn reads of one connection.
 const MOST_ROOM: usize = 4_194_304;
@@ -30,14 +30,14 @@ pub struct Links {
     halted: bool,
     /// The last turn met a limit, so that the next doesn't wait.
     hurries: bool,
-    /// How often memory ran out.
-    lacked: Lacked,
+    /// How often memory ran out. The count stays at its greatest.
+    lacked: u64,
     /// Room for what one read gives.
     piece: Vec<u8>,
     /// For the datasets of snapshots.
     seed: RandomState,
-    /// When the master may be dialled again.
-    patience: Patience,
+    /// When the master was dialled last. None where it may be dialled at once.
+    dialled: Option<i64>,
 }
 
 impl Model for Links {
@@ -53,7 +53,7 @@ impl Model for Links {
 impl Links {
     /// No connections. The datasets of snapshots that are loaded have this seed, which changes no answer.
     pub fn new(alloc: Global, seed: RandomState) -> Result<Links, AllocError>
-        ensures { IfOk result (λ links. links ≡ record { connections = map.empty; batch = []; halted = false; hurries = false; lacked = no_lack }) }
+        ensures { IfOk result (λ links. links ≡ record { connections = map.empty; batch = []; halted = false; hurries = false; lacked = 0 }) }
     {
         let piece = Vec::from_elem(alloc, 0u8, PIECE)?;
         Ok(Links {
@@ -62,10 +62,10 @@ impl Links {
             batch: Vec::new(alloc),
             halted: false,
             hurries: false,
-            lacked: Lacked::none(),
+            lacked: 0,
             piece,
             seed,
-            patience: Patience::new(),
+            dialled: None,
         })
     }
 
@@ -78,8 +78,8 @@ impl Links {
     }
 
     /// How often memory ran out: for a link that a peer opened or that leads to the master, for bytes that came, a step, time that
-    /// passes, or what the node gave out.
-    pub fn lacked(&self) -> Lacked
+    /// passes, or what the node gave out. The count stays at its greatest.
+    pub fn lacked(&self) -> u64
         ensures { result ≡ self.now.lacked }
     {
         self.lacked
@@ -123,18 +123,11 @@ impl Links {
         self.halted = true;
     }
 
-    /// Memory ran out, and no link is closed for it.
+    /// Memory ran out.
     pub(crate) fn lack(&mut self)
         ensures { self.new ≡ lacking self.old }
     {
-        self.lacked.count();
-    }
-
-    /// Memory ran out as this was asked for, and a link is closed for it.
-    pub(crate) fn lose(&mut self, asked: Asked)
-        ensures { self.new ≡ losing asked self.old }
-    {
-        self.lacked.count_link(asked);
+        self.lacked = self.lacked.saturating_add(1);
     }
 
     /// For the datasets of snapshots.
@@ -144,31 +137,24 @@ impl Links {
 
     /// Whether the master may be dialled at this moment: not so soon again, unless the clock stands still.
     pub(crate) fn may_dial(&self, now: i64) -> bool {
-        self.patience.may_dial(now)
+        match self.dialled {
+            None => true,
+            Some(last) => now <= last || now >= last.saturating_add(REDIAL_AFTER),
+        }
     }
 
     /// The master is dialled at this moment.
     pub(crate) fn note_dial(&mut self, now: i64)
         ensures { self.new ≡ self.old }
     {
-        self.patience.note(now);
-    }
-
-    /// The node has this role. Where it is in its master's stream, that is dialled again soon once it breaks.
-    pub(crate) fn note_role(&mut self, role: Role)
-        ensures { self.new ≡ self.old }
-    {
-        match role {
-            Role::Connected => self.patience.trust(),
-            Role::Master | Role::Connect | Role::Sync => {}
-        }
+        self.dialled = Some(now);
     }
 
     /// Another master is to be followed: it may be dialled at once.
     pub(crate) fn forget_dial(&mut self)
         ensures { self.new ≡ self.old }
     {
-        self.patience = Patience::new();
+        self.dialled = None;
     }
 }
 
@@ -238,9 +224,15 @@ impl Links {
     pub(crate) fn join(&mut self, socket: LinkId, link: LinkId) -> Result<(), AllocError>
         ensures fresh { OnOk result (connection_at self.old socket ≡ None) }
         ensures joined { OnOk result (self.new ≡ record self.old { connections = map.insert self.old.connections socket (begun link) }) }
-        ensures err { OnErr result (self.new ≡ self.old) }
+        ensures err { OnErr result (self.new ≡ lacking self.old) }
     {
-        self.connections.join(socket, link)
+        match self.connections.join(socket, link) {
+            Ok(()) => Ok(()),
+            Err(refused) => {
+                self.lack();
+                Err(refused)
+            }
+        }
     }
 
     /// Takes a connection out.

@@ -12,7 +12,6 @@ ghost use Rattle.mr_loop.specs.Quiet.{AllWait, OthersWait, WaitsUnless, left_at}
 use crate::fault::LoopFault;
 use crate::followed::{Place, news_of, place_of};
 use crate::host::Host;
-use crate::lacking::{asked_at, told_or_none};
 use crate::moment::given;
 use mr_file::LogFile;
 use mr_links::LinkId;
@@ -113,8 +112,7 @@ impl<W: Wire, F: LogFile, S: Source> Host<'_, '_, W, F, S> {
             }
             Err(_refused) => {
                 self.node.sound();
-                let unread = told_or_none(self.node.unread(link));
-                self.own.lose(asked_at(place, unread));
+                self.own.lack();
                 self.drop_connection(socket, Some(link));
                 Ok(false)
             }

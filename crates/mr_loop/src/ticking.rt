@@ -15,8 +15,7 @@ use mr_source::Source;
 use mr_wire::Wire;
 
 impl<W: Wire, F: LogFile, S: Source> Host<'_, '_, W, F, S> {
-    /// Has time pass at the node, again and again while it deletes, and so often at most. It answers whether more may be due now: what
-    /// memory is lacking for waits for a later turn.
+    /// Has time pass at the node, again and again while it deletes, and so often at most. It answers whether more may be due.
     pub(crate) fn tick_all(&mut self) -> Result<bool, LoopFault>
         ensures went { PassesAs W.tells W.links W.failures F.told F.synced S.drawn result (most_ticks self.old.moment.turn.done) self.old self.new }
         ensures same { IsSame W.waited self.old self.new }
@@ -33,7 +32,7 @@ impl<W: Wire, F: LogFile, S: Source> Host<'_, '_, W, F, S> {
         Ok(true)
     }
 
-    /// Time passes at the node. It answers whether another tick may still delete, for which memory isn't lacking.
+    /// Time passes at the node. It answers whether another tick may still delete.
     fn tick(&mut self) -> Result<bool, LoopFault>
         ensures went { TicksAs W.tells W.links W.failures F.told F.synced S.drawn result self.old self.new }
         ensures same { IsSame W.waited self.old self.new }
@@ -51,7 +50,7 @@ impl<W: Wire, F: LogFile, S: Source> Host<'_, '_, W, F, S> {
             Err(NodeFault::Stopped) => Err(LoopFault::Stopped),
             Err(_refused) => {
                 self.own.lack();
-                Ok(false)
+                Ok(true)
             }
         }
     }

