@@ -1,0 +1,4 @@
+pub mod System
+pub mod Network
+pub mod Steps
+pub mod Servers
