@@ -1,12 +1,15 @@
 //! Lines that say how a replica comes into its master's stream, and what keeps it out.
 use crate::master_link::MasterLink;
-use crate::notice::{Seldom, tell};
-use crate::roles::{Shown, offset_of};
+use crate::roles::{ShownAddress, offset_of};
 use mr_loop::Followed;
 use mr_node::{Node, Role};
-use mr_outs::Address;
+use mr_node_output::Address;
+use mr_notices::{Notices, Seldom, Shown};
 use std::fmt;
 use std::time::{Duration, Instant};
+
+/// So many lines of the handshake are answered before the master is asked how it goes on.
+const GREETINGS: u64 = 3;
 
 /// How far a replica has come on its link to its master.
 #[derive(Clone, Copy)]
@@ -24,8 +27,10 @@ enum Way {
 enum Trouble {
     /// The master can't be dialled.
     Undialled,
-    /// The link ended before the master said how it goes on.
+    /// The link ended before the master was asked how it goes on.
     Unreached,
+    /// It ended after that, and before the master said so.
+    ClosedBefore,
     /// It ended within a whole copy.
     LostCopying,
     /// It ended in the stream.
@@ -90,12 +95,18 @@ impl FollowNotice {
 
     /// Tells what came of following a master in the turn that was made last: that a whole copy begins, or is there, that the stream
     /// goes on, that the link was lost, or that the master was left for what it sent.
-    pub fn look(&mut self, rt: &HostRuntime, node: &Node, followed: Followed, master: &MasterLink) {
+    pub fn look(
+        &mut self,
+        notices: &mut Notices,
+        node: &Node,
+        followed: Followed,
+        master: &MasterLink,
+    ) {
         let goes_on = master.dialled() == self.dialled;
         let lines = followed.greeted.saturating_add(followed.announced);
         self.lines = self.lines.saturating_add(lines);
         if let Some(address) = node.upstream() {
-            self.tell_way(rt, address, node, followed);
+            self.tell_way(notices, address, node, followed);
             let line = self.refused_line(followed, master);
             if let Some(trouble) = self.trouble(followed, master, line) {
                 let text = TroubleLine {
@@ -105,7 +116,7 @@ impl FollowNotice {
                     offset: offset_of(node),
                     timeout: master.timeout(),
                 };
-                self.tell_trouble(rt, &text);
+                self.tell_trouble(notices, &text);
             }
         }
         self.dialled = master.dialled();
@@ -116,12 +127,12 @@ impl FollowNotice {
     }
 
     /// Tells of a whole copy that begins or is there, and that the stream goes on.
-    fn tell_way(&mut self, rt: &HostRuntime, of: &Address, node: &Node, followed: Followed) {
+    fn tell_way(&mut self, notices: &mut Notices, of: &Address, node: &Node, followed: Followed) {
         if followed.announced > 0 {
             self.way = Way::Copying;
-            self.began = Instant::now(rt).ok();
-            let text = format_args!("replica of {}, whole copy begins", Shown(of));
-            if self.copies.tell(rt, true, &text) {
+            self.began = notices.now();
+            let text = format_args!("replica of {}, whole copy begins", ShownAddress(of));
+            if self.copies.tell(notices, true, &text) {
                 self.told = None;
             }
         }
@@ -129,30 +140,27 @@ impl FollowNotice {
             self.way = Way::Streaming;
             self.told = None;
             let (keys, bytes) = (node.key_count(), followed.bytes);
-            let took = Seconds(self.since(rt));
-            tell(
-                rt,
-                &format_args!(
-                    "replica of {}, whole copy of {keys} keys, {bytes} bytes, in {took} s",
-                    Shown(of)
-                ),
-            );
+            let took = Seconds(self.since(notices));
+            notices.tell(&format_args!(
+                "replica of {}, whole copy of {keys} keys, {bytes} bytes, in {took} s",
+                ShownAddress(of)
+            ));
         }
         if followed.continued > 0 {
             self.way = Way::Streaming;
             self.told = None;
             let offset = self.offset;
-            tell(
-                rt,
-                &format_args!("replica of {}, goes on from offset {offset}", Shown(of)),
-            );
+            notices.tell(&format_args!(
+                "replica of {}, goes on from offset {offset}",
+                ShownAddress(of)
+            ));
         }
     }
 
     /// How long it is since the whole copy was announced. Where the clock fails no time has passed.
-    fn since(&self, rt: &HostRuntime) -> Duration {
-        match (self.began, Instant::now(rt)) {
-            (Some(began), Ok(now)) => now.duration_since(began),
+    fn since(&self, notices: &Notices) -> Duration {
+        match (self.began, notices.now()) {
+            (Some(began), Some(now)) => now.duration_since(began),
             (_, _) => Duration::ZERO,
         }
     }
@@ -202,18 +210,19 @@ impl FollowNotice {
     /// Where the link was lost.
     fn loss(&self) -> Trouble {
         match self.way {
-            Way::Before => Trouble::Unreached,
+            Way::Before if self.lines < GREETINGS => Trouble::Unreached,
+            Way::Before => Trouble::ClosedBefore,
             Way::Copying => Trouble::LostCopying,
             Way::Streaming => Trouble::LostStreaming,
         }
     }
 
     /// Tells of a trouble, unless it was told last of this master, and once a second at most.
-    fn tell_trouble(&mut self, rt: &HostRuntime, text: &TroubleLine<'_>) {
+    fn tell_trouble(&mut self, notices: &mut Notices, text: &TroubleLine<'_>) {
         let (trouble, address) = (text.trouble, text.of);
         let due = !self.was_told(trouble, address);
-        if self.troubles.tell(rt, due, text) {
-            self.told = match Address::copied(rt.alloc(), address.host(), address.port()) {
+        if self.troubles.tell(notices, due, text) {
+            self.told = match Address::copied(notices.alloc(), address.host(), address.port()) {
                 Ok(of) => Some(Told { trouble, of }),
                 Err(_refused) => None,
             };
@@ -265,9 +274,9 @@ struct TroubleLine<'a> {
 
 impl fmt::Display for TroubleLine<'_> {
     fn fmt<W: fmt::Write>(&self, f: &mut fmt::Formatter<W>) -> fmt::Result {
-        let of = Shown(self.of);
+        let of = ShownAddress(self.of);
         let (offset, timeout) = (self.offset, self.timeout);
-        let line = str::from_utf8(self.line).unwrap_or("?");
+        let line = Shown(self.line);
         match self.trouble {
             Trouble::Undialled => write!(
                 f,
@@ -279,6 +288,7 @@ impl fmt::Display for TroubleLine<'_> {
                     "replica of {of}, not reached, or link lost in the handshake"
                 )
             }
+            Trouble::ClosedBefore => write!(f, "replica of {of}, closed by it before the copy"),
             Trouble::LostCopying => write!(f, "replica of {of}, link lost within a whole copy"),
             Trouble::LostStreaming => write!(f, "replica of {of}, link lost in its stream"),
             Trouble::Silent => {

@@ -1,13 +1,20 @@
 //! The append-only file of a node.
 use crate::failure::{Failure, FileFault};
 use crate::kept_file::KeptFile;
-use crate::notice::tell;
 use mr_aof::{Loaded, Log, LogFault};
 use mr_data::Dataset;
 use mr_file::{OpenFault, SyncMode, SystemFile};
+use mr_notices::Notices;
 use mr_pipe::{PipeConfig, PipeFault, pipe_with};
 use std::hash::RandomState;
 use std::io::Write;
+
+/// How a file is used: whether a server writes it, and when it is on the disk.
+#[derive(Clone, Copy)]
+pub struct FileMode {
+    pub serves: bool,
+    pub sync: SyncMode,
+}
 
 /// The failure of the file at this path.
 pub fn file_failure(rt: &HostRuntime, path: &str, fault: FileFault) -> Failure {
@@ -17,7 +24,7 @@ pub fn file_failure(rt: &HostRuntime, path: &str, fault: FileFault) -> Failure {
     }
 }
 
-/// The file at this path. In a server its replacements are told, and descriptors are kept in reserve for them.
+/// The file at this path. In a server descriptors are kept in reserve, for its replacements.
 fn opened_file(rt: &HostRuntime, path: &str, serves: bool) -> Result<KeptFile, Failure> {
     let Ok(of_file) = rt.clone() else {
         return Err(Failure::Memory);
@@ -33,35 +40,41 @@ fn opened_file(rt: &HostRuntime, path: &str, serves: bool) -> Result<KeptFile, F
         let fault = FileFault::Open(OpenFault::System(error));
         return Err(file_failure(rt, path, fault));
     }
-    Ok(KeptFile::new(of_kept, file, serves))
+    Ok(KeptFile::new(of_kept, file))
 }
 
 /// Tells what was cut off the end of the file at this path, if something was.
-fn tell_cut(rt: &HostRuntime, path: &str, file: &KeptFile) {
+fn tell_cut(notices: &mut Notices, path: &str, file: &KeptFile) {
     if let Some(aside) = file.system().aside() {
         let (count, from, copy) = (aside.len, aside.from, aside.path.as_str());
-        tell(
-            rt,
-            &format_args!(
-                "{path}: cut off {count} bytes from offset {from} on, copied to {copy} before"
-            ),
-        );
+        notices.tell(&format_args!(
+            "{path}: cut off {count} bytes from offset {from} on, copied to {copy} before"
+        ));
     }
 }
 
-/// The log of the file at this path, and the dataset that is kept there.
+/// What the program says of itself on standard error.
+pub fn notices_of(rt: &HostRuntime) -> Result<Notices, Failure> {
+    match Notices::new(rt) {
+        Ok(notices) => Ok(notices),
+        Err(_refused) => Err(Failure::Memory),
+    }
+}
+
+/// The log of the file at this path, and the dataset that is kept there. What was cut off its end is told.
 pub fn opened(
     rt: &HostRuntime,
+    notices: &mut Notices,
     path: &str,
-    serves: bool,
-    sync: SyncMode,
+    mode: FileMode,
     seed: RandomState,
 ) -> Result<(Log<KeptFile>, Dataset), Failure> {
+    let FileMode { serves, sync } = mode;
     let file = opened_file(rt, path, serves)?;
     match Log::open(rt.alloc(), seed, file, sync) {
         Ok((log, loaded)) => {
             let Loaded { dataset, used: _ } = loaded;
-            tell_cut(rt, path, log.file());
+            tell_cut(notices, path, log.file());
             Ok((log, dataset))
         }
         Err((LogFault::Memory, _file)) => Err(Failure::Memory),
@@ -86,7 +99,11 @@ pub fn run_kept<W: Write>(
     seed: RandomState,
     output: &mut W,
 ) -> Result<(), Failure> {
-    let (mut log, dataset) = opened(rt, path, false, SyncMode::Always, seed)?;
+    let mode = FileMode {
+        serves: false,
+        sync: SyncMode::Always,
+    };
+    let (mut log, dataset) = opened(rt, &mut notices_of(rt)?, path, mode, seed)?;
     let ended = pipe_with(
         rt.alloc(),
         config,

@@ -1,23 +1,49 @@
-//! The append-only file on the disk, and what becomes of it that isn't the server's doing.
+//! The append-only file on the disk, and what becomes of it.
 ghost use Rattle.std.specs.Prelude.{None};
 
-use crate::notice::tell;
 use mr_aof::NoFile;
 use mr_file::{Change, Failed, LogFile, SystemFile};
+use mr_notices::Notices;
 use std::time::{Duration, Instant};
 
 /// What becomes of the file is looked for after so many seconds.
 const LOOKED_AFTER: u64 = 1;
 
-/// Of a file: what became of it that wasn't done through it.
+/// How often a file was written anew, and how many bytes took its place last, in how many milliseconds.
+#[derive(Clone, Copy)]
+pub struct Replaced {
+    times: u64,
+    bytes: usize,
+    millis: u64,
+}
+
+impl Replaced {
+    /// It never was.
+    pub fn never() -> Replaced {
+        Replaced {
+            times: 0,
+            bytes: 0,
+            millis: 0,
+        }
+    }
+}
+
+/// Of a file: what became of it, through it or by others.
 pub trait SeesChange {
-    /// Its name, and what became of it, if anything did.
+    /// Its name, and what became of it by others, if anything did.
     fn change(&self) -> Option<(&str, Change)>;
+
+    /// How often it was written anew.
+    fn replaced(&self) -> Replaced;
 }
 
 impl SeesChange for NoFile {
     fn change(&self) -> Option<(&str, Change)> {
         None
+    }
+
+    fn replaced(&self) -> Replaced {
+        Replaced::never()
     }
 }
 
@@ -26,27 +52,35 @@ impl SeesChange for KeptFile {
         let change = self.file.change()?;
         Some((self.file.path(), change))
     }
+
+    fn replaced(&self) -> Replaced {
+        self.replaced
+    }
 }
 
-/// Says once that the file was removed, replaced, cut or written by others, and again where that comes again after it was whole.
+/// Says each time that the file was written anew; and once that it was removed, replaced, cut or written by others, and again where
+/// that comes again after it was whole.
 #[derive(Drop)]
-pub struct ChangeNotice {
+pub struct FileNotice {
+    replaced: u64,
     looked: Option<Instant>,
     told: bool,
 }
 
-impl ChangeNotice {
+impl FileNotice {
     /// Nothing was looked for.
-    pub fn new() -> ChangeNotice {
-        ChangeNotice {
+    pub fn new() -> FileNotice {
+        FileNotice {
+            replaced: 0,
             looked: None,
             told: false,
         }
     }
 
-    /// Looks what became of the file, once a second.
-    pub fn look<F: SeesChange>(&mut self, rt: &HostRuntime, file: &F) {
-        if !self.is_due(rt) {
+    /// Says that the file was written anew where it was since the last look, and looks what became of it by others, once a second.
+    pub fn look<F: SeesChange>(&mut self, notices: &mut Notices, file: &F) {
+        self.tell_replaced(notices, file.replaced());
+        if !self.is_due(notices) {
             return;
         }
         let Some((path, change)) = file.change() else {
@@ -54,19 +88,26 @@ impl ChangeNotice {
             return;
         };
         if !self.told {
-            tell(
-                rt,
-                &format_args!(
-                    "{path}: {change}: a restart may not find what is written now; BGREWRITEAOF writes it anew"
-                ),
-            );
+            notices.tell(&format_args!(
+                "{path}: {change}: a restart may not find what is written now; BGREWRITEAOF writes it anew"
+            ));
         }
         self.told = true;
     }
 
+    /// Says how many bytes took the file's place, and how long that took, where it was written anew.
+    fn tell_replaced(&mut self, notices: &mut Notices, replaced: Replaced) {
+        if replaced.times == self.replaced {
+            return;
+        }
+        self.replaced = replaced.times;
+        let (count, millis) = (replaced.bytes, replaced.millis);
+        notices.tell(&format_args!("file written anew: {count} bytes in {millis} ms"));
+    }
+
     /// Whether a second has passed since it was so last. Where the clock fails none has.
-    fn is_due(&mut self, rt: &HostRuntime) -> bool {
-        let Ok(now) = Instant::now(rt) else {
+    fn is_due(&mut self, notices: &Notices) -> bool {
+        let Some(now) = notices.now() else {
             return false;
         };
         if let Some(last) = self.looked
@@ -79,18 +120,22 @@ impl ChangeNotice {
     }
 }
 
-/// The append-only file on the disk. In a server each replacement of it is told.
+/// The append-only file on the disk, which counts how often it is written anew.
 #[derive(Drop)]
 pub struct KeptFile {
     rt: HostRuntime,
     file: SystemFile,
-    tells: bool,
+    replaced: Replaced,
 }
 
 impl KeptFile {
-    /// The file, whose replacements are told or not.
-    pub fn new(rt: HostRuntime, file: SystemFile, tells: bool) -> KeptFile {
-        KeptFile { rt, file, tells }
+    /// The file, which was never written anew.
+    pub fn new(rt: HostRuntime, file: SystemFile) -> KeptFile {
+        KeptFile {
+            rt,
+            file,
+            replaced: Replaced::never(),
+        }
     }
 
     /// The file as the system has it.
@@ -103,17 +148,6 @@ impl KeptFile {
         match (began, Instant::now(&self.rt)) {
             (Some(began), Ok(now)) => now.duration_since(began),
             (_, _) => Duration::ZERO,
-        }
-    }
-
-    /// Tells that so many bytes took the file's place, in a server, and how long that took.
-    fn tell_replaced(&self, began: Option<Instant>, count: usize) {
-        if self.tells {
-            let millis = self.since(began).as_millis();
-            tell(
-                &self.rt,
-                &format_args!("file written anew: {count} bytes in {millis} ms"),
-            );
         }
     }
 }
@@ -150,7 +184,11 @@ impl LogFile for KeptFile {
     fn replace(&mut self, whole: &[u8]) -> Result<(), Failed> {
         let began = Instant::now(&self.rt).ok();
         self.file.replace(whole)?;
-        self.tell_replaced(began, whole.len());
+        self.replaced = Replaced {
+            times: self.replaced.times.saturating_add(1),
+            bytes: whole.len(),
+            millis: u64::try_from(self.since(began).as_millis()).unwrap_or(u64::MAX),
+        };
         Ok(())
     }
 }

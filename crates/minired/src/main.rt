@@ -2,20 +2,19 @@
 #![tactic(auto)]
 
 ghost use Rattle.mr_data.specs.Given.{IsMoment};
-ghost use Rattle.mr_player.specs.Asking.{IsBacklog};
+ghost use Rattle.mr_world_player.specs.Asking.{IsBacklog};
 
 mod failure;
 mod following;
 mod help;
 mod kept;
 mod kept_file;
+mod leading;
 mod master_link;
-mod notice;
 mod obeying;
-mod peer;
 mod roles;
 mod served;
-mod silence;
+mod telling;
 mod told_wire;
 mod turns;
 
@@ -23,10 +22,11 @@ use failure::Failure;
 use help::answer;
 use kept::run_kept;
 use mr_data::Given;
+use mr_notices::tell_last;
 use mr_options::{Options, PipeOptions, UsageFault, asked, options};
 use mr_pipe::{PipeConfig, PipeFault, pipe};
-use mr_player::world;
 use mr_trio::trio;
+use mr_world_player::world;
 use served::run_server;
 use std::env;
 use std::hash::RandomState;
@@ -132,13 +132,13 @@ fn run(rt: &HostRuntime) -> Result<(), Failure> {
     }
 }
 
-/// Runs the program. What it fails with is told on standard error, and makes its exit status.
+/// Runs the program. What it fails with is told on standard error, unless that takes nothing for a second, and makes its exit status.
 fn main(rt: HostRuntime) -> ExitCode {
     match run(&rt) {
         Ok(()) => ExitCode::SUCCESS,
         Err(failure) => {
             if failure.is_told() {
-                let _ = eprintln!(rt; "minired: {failure}");
+                tell_last(&rt, &format_args!("minired: {failure}"));
             }
             ExitCode::from(failure.status())
         }

@@ -1,17 +1,12 @@
 //! What a wire sees of its node's link to a master.
 use mr_links::LinkId;
+use mr_notices::{MOST_SHOWN, shown_byte};
 use mr_wire::{Failed, Moved};
 use std::alloc::Global;
 use std::mem;
 
 /// So many bytes are kept of what the master said first.
 const KEPT: usize = 1024;
-
-/// So many bytes of a line are shown.
-const SHOWN: usize = 100;
-
-/// What stands in the place of a byte that can't be shown.
-const NO_TEXT: u8 = b'?';
 
 /// The link that the node dialled last, and how often such links came and went.
 #[derive(Drop)]
@@ -125,11 +120,9 @@ impl MasterLink {
         }
     }
 
-    /// A link is hung up. Whether it is this one.
-    pub fn hang_up(&mut self, link: LinkId) -> bool {
-        let is_here = self.is(link);
-        self.hung_up = self.hung_up || is_here;
-        is_here
+    /// A link is hung up, since the master is silent.
+    pub fn hang_up(&mut self, link: LinkId) {
+        self.hung_up = self.hung_up || self.is(link);
     }
 
     /// A link is closed here.
@@ -139,8 +132,8 @@ impl MasterLink {
         }
     }
 
-    /// Whether it has this name.
-    fn is(&self, link: LinkId) -> bool {
+    /// Whether the link that was dialled last has this name, and neither ended nor was closed.
+    pub fn is(&self, link: LinkId) -> bool {
         match self.link {
             Some(name) => name == link,
             None => false,
@@ -168,10 +161,7 @@ impl MasterLink {
 
 /// The byte as it is kept: the end of a line, or what can be shown.
 fn shown(byte: u8) -> u8 {
-    if is_end(byte) || (b' '..=b'~').contains(&byte) {
-        return byte;
-    }
-    NO_TEXT
+    if is_end(byte) { byte } else { shown_byte(byte) }
 }
 
 /// Whether this is of a line's end.
@@ -180,7 +170,7 @@ fn is_end(byte: u8) -> bool {
 }
 
 /// What stands behind the first line, if that is whole.
-pub fn behind_line(bytes: &[u8]) -> &[u8] {
+fn behind_line(bytes: &[u8]) -> &[u8] {
     for at in 0..bytes.len() {
         if bytes[at] == b'\n' {
             return &bytes[at + 1..];
@@ -192,7 +182,7 @@ pub fn behind_line(bytes: &[u8]) -> &[u8] {
 /// The front of the first line.
 fn line_in(bytes: &[u8]) -> &[u8] {
     for at in 0..bytes.len() {
-        if at == SHOWN || is_end(bytes[at]) {
+        if at == MOST_SHOWN || is_end(bytes[at]) {
             return &bytes[..at];
         }
     }

@@ -1,11 +1,8 @@
 //! Lines that say what role the node has come to.
-use crate::notice::tell;
 use mr_node::{Node, Role};
-use mr_outs::Address;
+use mr_node_output::Address;
+use mr_notices::{Notices, Shown};
 use std::fmt;
-
-/// What is told of a host that is no text.
-const NO_TEXT: &str = "?";
 
 /// What was told last of a node's role.
 #[derive(Drop)]
@@ -21,7 +18,7 @@ impl RoleNotice {
 
     /// Tells of the node's role where that is another: that it is a master, that it follows a master's stream, or that it doesn't any
     /// more, or not yet.
-    pub fn look(&mut self, rt: &HostRuntime, node: &Node) {
+    pub fn look(&mut self, notices: &mut Notices, node: &Node) {
         let role = node.role();
         if role == self.told {
             return;
@@ -29,11 +26,11 @@ impl RoleNotice {
         let streamed = follows_stream(self.told);
         self.told = role;
         match role {
-            Role::Master => tell(rt, &format_args!("a master, at offset {}", offset_of(node))),
-            Role::Connected => tell_stream(rt, node),
+            Role::Master => notices.tell(&format_args!("a master, at offset {}", offset_of(node))),
+            Role::Connected => tell_stream(notices, node),
             Role::Connect | Role::Sync => {
                 if streamed {
-                    tell_apart(rt, node);
+                    tell_apart(notices, node);
                 }
             }
         }
@@ -49,26 +46,20 @@ fn follows_stream(role: Role) -> bool {
 }
 
 /// Tells whose stream the node follows, and at which offset in bytes.
-fn tell_stream(rt: &HostRuntime, node: &Node) {
+fn tell_stream(notices: &mut Notices, node: &Node) {
     let offset = offset_of(node);
     if let Some(address) = node.upstream() {
-        tell(
-            rt,
-            &format_args!(
-                "replica of {}, in its stream at offset {offset}",
-                Shown(address)
-            ),
-        );
+        notices.tell(&format_args!(
+            "replica of {}, in its stream at offset {offset}",
+            ShownAddress(address)
+        ));
     }
 }
 
 /// Tells whom the node follows without being in its stream.
-fn tell_apart(rt: &HostRuntime, node: &Node) {
+fn tell_apart(notices: &mut Notices, node: &Node) {
     if let Some(address) = node.upstream() {
-        tell(
-            rt,
-            &format_args!("replica of {}, not in its stream", Shown(address)),
-        );
+        notices.tell(&format_args!("replica of {}, not in its stream", ShownAddress(address)));
     }
 }
 
@@ -80,13 +71,13 @@ pub fn offset_of(node: &Node) -> u64 {
     }
 }
 
-/// A host and a port, as they are spelled in options.
+/// A host and a port, as they are spelled in options. Of the host, which a client sent, no more is shown than of anything that others sent.
 #[derive(Drop)]
-pub struct Shown<'a>(pub &'a Address);
+pub struct ShownAddress<'a>(pub &'a Address);
 
-impl fmt::Display for Shown<'_> {
+impl fmt::Display for ShownAddress<'_> {
     fn fmt<W: fmt::Write>(&self, f: &mut fmt::Formatter<W>) -> fmt::Result {
-        let host = str::from_utf8(self.0.host()).unwrap_or(NO_TEXT);
+        let host = Shown(self.0.host());
         let port = self.0.port();
         write!(f, "{host}:{port}")
     }

@@ -2,10 +2,10 @@
 ghost use Rattle.std.specs.Prelude.{◌≤◌, ◌^◌};
 
 use crate::failure::Failure;
-use crate::kept::{opened, write_failure};
+use crate::kept::{FileMode, notices_of, opened, write_failure};
 use crate::kept_file::SeesChange;
-use crate::notice::tell;
 use crate::obeying::follow;
+use crate::telling::Telling;
 use crate::told_wire::ToldWire;
 use crate::turns::serve_turns;
 use mr_aof::Log;
@@ -13,7 +13,9 @@ use mr_data::Dataset;
 use mr_file::LogFile;
 use mr_loop::{Links, LoopFault};
 use mr_node::{Config, Node, Role};
+use mr_notices::Notices;
 use mr_options::ServeOptions;
+use mr_silence::Limits;
 use mr_source::{Source, SystemSource};
 use mr_wire::{SocketWire, descriptor_limit, most_links};
 use std::hash::RandomState;
@@ -27,36 +29,50 @@ pub fn run_server(
 ) -> Result<(), Failure>
     requires { (1 ≤ options.now.backlog) × (options.now.backlog ≤ 2 ^ 30) }
 {
+    let mut notices = notices_of(rt)?;
     match options.aof {
         Some(path) => {
-            let (mut log, dataset) = opened(rt, path, true, options.sync, seed)?;
-            match serve_node(rt, options, dataset, &mut log, seed) {
+            let mode = FileMode {
+                serves: true,
+                sync: options.sync,
+            };
+            let (mut log, dataset) = opened(rt, &mut notices, path, mode, seed)?;
+            let begin = Beginning { dataset, seed };
+            match serve_node(rt, notices, options, begin, &mut log) {
                 Err(Failure::Loop(LoopFault::File)) => Err(write_failure(rt, path, &log)),
                 ended => ended,
             }
         }
-        None => serve_node(
-            rt,
-            options,
-            Dataset::new(rt.alloc(), seed),
-            &mut Log::none(),
-            seed,
-        ),
+        None => {
+            let dataset = Dataset::new(rt.alloc(), seed);
+            let begin = Beginning { dataset, seed };
+            serve_node(rt, notices, options, begin, &mut Log::none())
+        }
     }
+}
+
+/// What a server begins with.
+#[derive(Drop)]
+struct Beginning {
+    dataset: Dataset,
+    /// For the datasets of copies.
+    seed: RandomState,
 }
 
 /// Serves the peers of a node that begins with this dataset.
 fn serve_node<F: LogFile + SeesChange>(
     rt: &HostRuntime,
+    notices: Notices,
     options: &ServeOptions<'_>,
-    dataset: Dataset,
+    begin: Beginning,
     log: &mut Log<F>,
-    seed: RandomState,
 ) -> Result<(), Failure>
     requires { (1 ≤ options.now.backlog) × (options.now.backlog ≤ 2 ^ 30) }
 {
+    let Beginning { dataset, seed } = begin;
+    let mut telling = Telling::new(notices, options.idle_timeout);
     let mut source = source_of(rt)?;
-    let mut wire = listening(rt, options)?;
+    let mut wire = listening(rt, &mut telling, options)?;
     let Ok(mut links) = Links::new(rt.alloc(), seed) else {
         return Err(Failure::Memory);
     };
@@ -65,9 +81,9 @@ fn serve_node<F: LogFile + SeesChange>(
     if node.shows().is_none() {
         return Err(Failure::Loop(LoopFault::Stopped));
     }
-    tell_ready(rt, options, keys);
+    tell_ready(rt, &mut telling, options, keys);
     let ended = serve_turns(
-        rt,
+        &mut telling,
         &mut node,
         &mut links,
         &mut wire,
@@ -77,12 +93,12 @@ fn serve_node<F: LogFile + SeesChange>(
     );
     match ended {
         Ok(()) => {
-            tell_end(rt, links.halted());
+            tell_end(&mut telling, links.halted());
             Ok(())
         }
         Err(fault) => {
             let failure = failure_of(&node, fault);
-            tell(rt, &format_args!("ends: {failure}"));
+            telling.tell(&format_args!("ends: {failure}"));
             Err(failure)
         }
     }
@@ -122,11 +138,11 @@ fn node_of<S: Source>(
 }
 
 /// Tells why the server ends where nothing failed.
-fn tell_end(rt: &HostRuntime, halted: bool) {
+fn tell_end(telling: &mut Telling, halted: bool) {
     if halted {
-        tell(rt, &"ends: a client said SHUTDOWN");
+        telling.tell(&"ends: a client said SHUTDOWN");
     } else {
-        tell(rt, &"ends: it made all its turns");
+        telling.tell(&"ends: it made all its turns");
     }
 }
 
@@ -147,49 +163,69 @@ fn source_of(rt: &HostRuntime) -> Result<SystemSource, Failure> {
 }
 
 /// A wire that listens where the options say.
-fn listening(rt: &HostRuntime, options: &ServeOptions<'_>) -> Result<ToldWire, Failure> {
+fn listening(
+    rt: &HostRuntime,
+    telling: &mut Telling,
+    options: &ServeOptions<'_>,
+) -> Result<ToldWire, Failure> {
     let (of_sockets, of_wire) = (another(rt)?, another(rt)?);
     let address = SocketAddr::from((options.bind, options.port));
     match SocketWire::listen(of_sockets, rt.alloc(), address) {
         Ok(mut wire) => {
             wire.probe_after(options.keepalive);
-            wire.take_at_most(room_of(rt, options.most_clients));
-            Ok(ToldWire::new(of_wire, wire, options.timeout, options.idle_timeout))
+            wire.take_at_most(room_of(telling, options.most_clients));
+            Ok(ToldWire::new(of_wire, wire, limits_of(options), options.timeout))
         }
         Err(error) => Err(Failure::Listen(options.port, error)),
     }
 }
 
+/// For how long peers may be silent.
+fn limits_of(options: &ServeOptions<'_>) -> Limits {
+    Limits {
+        replication: millis_of(options.timeout),
+        clients: if options.idle_timeout > 0 {
+            Some(millis_of(options.idle_timeout))
+        } else {
+            None
+        },
+    }
+}
+
+/// So many seconds, in milliseconds.
+fn millis_of(seconds: u64) -> u64 {
+    seconds.saturating_mul(1_000)
+}
+
 /// How many clients may have a link at once where so many are to. A notice says so.
-fn room_of(rt: &HostRuntime, wanted: usize) -> usize {
+fn room_of(telling: &mut Telling, wanted: usize) -> usize {
     let most = most_links(wanted, descriptor_limit());
     if most < wanted {
-        tell(
-            rt,
-            &format_args!("takes at most {most} clients at once: `ulimit -n` allows no more"),
-        );
+        telling.tell(&format_args!(
+            "takes at most {most} clients at once: `ulimit -n` allows no more"
+        ));
     } else {
-        tell(rt, &format_args!("takes at most {most} clients at once"));
+        telling.tell(&format_args!("takes at most {most} clients at once"));
     }
     most
 }
 
 /// The lines that say that clients may come: one on standard output, and a notice. Where others than this machine's reach the server,
 /// a notice says that they are asked for no password. Lines that can't be written are left out.
-fn tell_ready(rt: &HostRuntime, options: &ServeOptions<'_>, keys: usize) {
+fn tell_ready(rt: &HostRuntime, telling: &mut Telling, options: &ServeOptions<'_>, keys: usize) {
     let (address, port) = (options.bind, options.port);
     if !address.is_loopback() {
-        tell(rt, &"whoever reaches it is asked for no password");
+        telling.tell(&"whoever reaches it is asked for no password");
     }
     match options.aof {
         Some(path) => {
             let text = format_args!("ready on {address}:{port}, {keys} keys from {path}");
-            tell(rt, &text);
+            telling.tell(&text);
             let _ = println!(rt; "minired: {text}");
         }
         None => {
             let text = format_args!("ready on {address}:{port}, {keys} keys");
-            tell(rt, &text);
+            telling.tell(&text);
             let _ = println!(rt; "minired: {text}");
         }
     }

@@ -1,116 +1,184 @@
-//! The wire of a server, which tells where it has no descriptor left, knows of the link to the master, and hangs up on silent peers.
+//! The wire of a server, which knows of the link to the master and of those whose peers are silent: on these it hangs up.
 ghost use Rattle.std.specs.Prelude.{◌≡◌, [], false};
 ghost use Rattle.mr_wire.specs.Wire.{wire_of};
 
+use crate::leading::peer_of;
 use crate::master_link::MasterLink;
-use crate::notice::{Seldom, tell};
-use crate::silence::{Silence, Silent};
 use mr_links::LinkId;
+use mr_loop::Links;
+use mr_node::Node;
+use mr_silence::{Cause, Limits, Peer, Silence};
 use mr_wire::{Failed, Moved, SocketWire, Wire};
+use std::time::Instant;
 
-/// What is told where no descriptor is left.
-const LACK: &str = "no more descriptors: links wait to be accepted";
+/// How often a wire saw what is told of it. Each count stays at 2^64 - 1.
+#[derive(Clone, Copy)]
+pub struct Seen {
+    /// How often no descriptor was left for a link that a peer opened.
+    pub lacking: u64,
+    /// How many replicas it hung up on.
+    pub replicas: u64,
+    /// How many clients that were idle.
+    pub idle: u64,
+    /// How many links whose end the node had closed, and where nothing was taken of what waited.
+    pub parting: u64,
+}
 
-/// A wire over the system's sockets. Where it has no descriptor for a link that a peer opened, it says so on standard error, once a
-/// second at most. It hangs up on a master and on replicas that have been silent for too long, and on clients that are idle where there is a
-/// limit, and says how many replicas and how many clients these were.
+impl Seen {
+    /// Nothing was seen yet.
+    pub fn nothing() -> Seen {
+        Seen {
+            lacking: 0,
+            replicas: 0,
+            idle: 0,
+            parting: 0,
+        }
+    }
+}
+
+/// A wire over the system's sockets. It hangs up on a master and on replicas that have been silent for too long, on clients that are
+/// idle where there is a limit, and on links that the node has closed and where nothing is taken of what waits.
 /// What is behind it then finds the end of the link, as where the peer had closed it.
 #[derive(Drop)]
 pub struct ToldWire {
     rt: HostRuntime,
     wire: SocketWire,
-    lack: Seldom,
     master: MasterLink,
     silence: Silence,
-    /// So many seconds a client may be idle, or for ever where that is 0.
-    idle: u64,
+    /// When the last wait began.
+    waited: Option<Instant>,
+    /// The links on which bytes came since the node was asked whom they lead to.
+    moved: Vec<LinkId>,
+    seen: Seen,
 }
 
-/// Of a wire: what it saw of its node's link to a master.
-pub trait SeesMaster {
+/// Of a wire: what it saw of its links' peers, of whom the node knows who they are.
+pub trait SeesPeers: Wire {
     /// The link that was dialled last, and how often such links came and went.
     fn master(&self) -> &MasterLink;
-}
 
-impl SeesMaster for ToldWire {
-    fn master(&self) -> &MasterLink {
-        &self.master
-    }
+    /// What it saw since it was opened.
+    fn seen(&self) -> Seen;
+
+    /// Has the node say whom the links lead to on which bytes came, and once a second of all links. Then it hangs up on each peer that
+    /// has been silent for too long.
+    fn look(&mut self, node: &Node, own: &Links)
+        ensures links { Self.links self.new ≡ Self.links self.old }
+        ensures failures { Self.failures self.new ≡ Self.failures self.old };
 }
 
 impl ToldWire {
-    /// The wire over these sockets. A peer of replication may be silent for so many seconds, and a client for so many, or for ever where
-    /// that is 0.
-    pub fn new(rt: HostRuntime, wire: SocketWire, replication: u64, clients: u64) -> ToldWire {
-        let master = MasterLink::new(rt.alloc(), replication);
-        let silence = Silence::new(rt.alloc(), replication, clients);
+    /// The wire over these sockets, whose peers may be silent for so long. A master may be for so many seconds.
+    pub fn new(rt: HostRuntime, wire: SocketWire, limits: Limits, timeout: u64) -> ToldWire {
+        let alloc = rt.alloc();
         ToldWire {
             rt,
             wire,
-            lack: Seldom::new(),
-            master,
-            silence,
-            idle: clients,
+            master: MasterLink::new(alloc, timeout),
+            silence: Silence::new(alloc, limits),
+            waited: None,
+            moved: Vec::new(alloc),
+            seen: Seen::nothing(),
+        }
+    }
+
+    /// Has the clock of the silence go on. Where the system's clock fails no time has passed.
+    fn pass(&mut self)
+        ensures links { self.new.wire.links ≡ self.old.wire.links }
+        ensures failed { self.new.wire.failed ≡ self.old.wire.failed }
+    {
+        let Ok(now) = Instant::now(&self.rt) else {
+            return;
+        };
+        if let Some(last) = self.waited {
+            let millis = u64::try_from(now.duration_since(last).as_millis());
+            self.silence.pass(millis.unwrap_or(u64::MAX));
+        }
+        self.waited = Some(now);
+    }
+}
+
+/// Has the node say whom the links lead to on which bytes came.
+fn lead_moved(
+    silence: &mut Silence,
+    moved: &mut Vec<LinkId>,
+    master: &MasterLink,
+    node: &Node,
+    own: &Links,
+) {
+    for socket in moved.iter() {
+        silence.lead(*socket, peer_of(node, own, master, *socket));
+    }
+    moved.clear();
+}
+
+/// Has the node say whom all links lead to.
+fn lead_all(silence: &mut Silence, master: &MasterLink, node: &Node, own: &Links) {
+    for index in 0..silence.len() {
+        if let Some(socket) = silence.link_at(index) {
+            silence.lead(socket, peer_of(node, own, master, socket));
         }
     }
 }
 
-/// How many links were hung up, by whom they led to.
-#[derive(Clone, Copy)]
-struct HungUp {
-    replicas: u64,
-    clients: u64,
-}
-
-impl HungUp {
-    /// Counts one more, of which the master's link is told instead where it is that.
-    fn count(&mut self, silent: Silent, master: &mut MasterLink) {
-        match silent {
-            Silent::Replication(link) => {
-                if !master.hang_up(link) {
-                    self.replicas = self.replicas.saturating_add(1);
-                }
-            }
-            Silent::Idle(_) => self.clients = self.clients.saturating_add(1),
-        }
-    }
-}
-
-/// Hangs up on each peer that has been silent for too long.
-fn hang_up_silent(wire: &mut SocketWire, silence: &mut Silence, master: &mut MasterLink) -> HungUp
+/// Hangs up on each peer that has been silent for too long, which is counted, or of the master noted.
+fn hang_up_silent(
+    wire: &mut SocketWire,
+    silence: &mut Silence,
+    master: &mut MasterLink,
+    seen: &mut Seen,
+)
     ensures links { wire.new.links ≡ wire.old.links }
     ensures failed { wire.new.failed ≡ wire.old.failed }
 {
-    let mut hung_up = HungUp {
-        replicas: 0,
-        clients: 0,
-    };
     for index in 0..silence.len() {
-        if let Some(silent) = silence.take_silent(index) {
-            wire.hang_up(silent.link());
-            hung_up.count(silent, master);
+        if let Some((link, cause)) = silence.silent_at(index) {
+            wire.hang_up(link);
+            silence.forget(link);
+            count(seen, master, link, cause);
         }
     }
-    hung_up
 }
 
-/// Says how many clients were hung up that were idle, if any was.
-fn tell_idle(rt: &HostRuntime, clients: u64, idle: u64) {
-    if clients > 0 {
-        tell(
-            rt,
-            &format_args!("clients hung up that were idle for {idle} s: {clients}"),
+/// Counts that a peer was hung up on for this cause.
+fn count(seen: &mut Seen, master: &mut MasterLink, link: LinkId, cause: Cause) {
+    match cause {
+        Cause::Master => master.hang_up(link),
+        Cause::Replica => seen.replicas = seen.replicas.saturating_add(1),
+        Cause::Idle => seen.idle = seen.idle.saturating_add(1),
+        Cause::Parting => seen.parting = seen.parting.saturating_add(1),
+    }
+}
+
+impl SeesPeers for ToldWire {
+    fn master(&self) -> &MasterLink {
+        &self.master
+    }
+
+    fn seen(&self) -> Seen {
+        self.seen
+    }
+
+    fn look(&mut self, node: &Node, own: &Links) {
+        lead_moved(&mut self.silence, &mut self.moved, &self.master, node, own);
+        if !self.silence.is_due() {
+            return;
+        }
+        lead_all(&mut self.silence, &self.master, node, own);
+        hang_up_silent(
+            &mut self.wire,
+            &mut self.silence,
+            &mut self.master,
+            &mut self.seen,
         );
     }
 }
 
-/// Says how many replicas were hung up, if any was.
-fn tell_hung_up(rt: &HostRuntime, replicas: u64, timeout: u64) {
-    if replicas > 0 {
-        let text = format_args!(
-            "replicas hung up that were silent or read nothing for {timeout} s: {replicas}"
-        );
-        tell(rt, &text);
+/// How many bytes a read or a write moved.
+fn count_of(moved: Moved) -> usize {
+    match moved {
+        Moved::Bytes(count) => count,
+        Moved::NotReady | Moved::End | Moved::Failed => 0,
     }
 }
 
@@ -124,27 +192,27 @@ impl Wire for ToldWire {
     ghost waited = { λ _. 0 };
 
     fn wait(&mut self, millis: u64) -> Result<(), Failed> {
-        self.silence.wait(&self.rt);
-        if self.silence.is_due() {
-            let hung_up = hang_up_silent(&mut self.wire, &mut self.silence, &mut self.master);
-            tell_hung_up(&self.rt, hung_up.replicas, self.master.timeout());
-            tell_idle(&self.rt, hung_up.clients, self.idle);
-        }
+        self.pass();
         self.wire.wait(millis)
     }
 
     fn accept(&mut self) -> Result<Option<LinkId>, Failed> {
         let accepted = self.wire.accept();
-        self.silence.accepted(accepted);
-        let due = self.wire.lacks_descriptors();
-        let _ = self.lack.tell(&self.rt, due, &LACK);
+        if let Ok(Some(link)) = accepted {
+            let _watched = self.silence.open(link, Peer::Client);
+        }
+        if self.wire.lacks_descriptors() {
+            self.seen.lacking = self.seen.lacking.saturating_add(1);
+        }
         accepted
     }
 
     fn connect(&mut self, host: &[u8], port: u16) -> Result<LinkId, Failed> {
         let connected = self.wire.connect(host, port);
         self.master.connected(connected);
-        self.silence.connected(connected);
+        if let Ok(link) = connected {
+            let _watched = self.silence.open(link, Peer::Master);
+        }
         connected
     }
 
@@ -155,20 +223,25 @@ impl Wire for ToldWire {
     fn read(&mut self, link: LinkId, into: &mut [u8]) -> Moved {
         let moved = self.wire.read(link, into);
         self.master.read(link, moved, into);
-        self.silence.read(link, moved);
+        let count = count_of(moved);
+        self.silence.came(link, count);
+        if count > 0 && self.moved.last() != Some(&link) {
+            // without memory for it, the node is asked within a second
+            let _noted = self.moved.push(link);
+        }
         moved
     }
 
     fn write(&mut self, link: LinkId, bytes: &[u8]) -> Moved {
         let moved = self.wire.write(link, bytes);
         self.master.written(link, moved);
-        self.silence.written(link, bytes, moved);
+        self.silence.went(link, bytes.len(), count_of(moved));
         moved
     }
 
     fn close(&mut self, link: LinkId) {
         self.master.closed(link);
-        self.silence.closed(link);
+        self.silence.forget(link);
         self.wire.close(link);
     }
 }

@@ -3,7 +3,7 @@ use Rattle.std.proofs.Common.{◌≡◌, ℕ, ◌<◌, ◌≤◌, ◌+◌, ◌-�
 use Rattle.std.specs.FinMap.{empty}
 use Rattle.std.proofs.lemmas.Bool.{cases_lt}
 use Rattle.std.proofs.lemmas.List.{take-append-drop, take-take, drop_all, drop_at, length-take-le}
-use Rattle.mr_entries.specs.Dataset.{Dataset}
+use Rattle.mr_keyspace.specs.Dataset.{Dataset}
 use Rattle.mr_file.specs.LogFile.{Rose, Reads, ReadsSome}
 use Rattle.mr_groups.specs.Groups.{group_text}
 use Rattle.mr_groups.specs.Reading.{BeginsWithGroup}

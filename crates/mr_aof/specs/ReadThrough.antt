@@ -1,6 +1,6 @@
 -- How far a file is read as it is opened.
 use Rattle.std.specs.Prelude.{◌≡◌, ◌⊎◌, ℕ, ◌<◌, ◌≤◌, ◌^◌, List, length, take, Bool, false, Option, None, Some}
-use Rattle.mr_entries.specs.Dataset.{Dataset}
+use Rattle.mr_keyspace.specs.Dataset.{Dataset}
 use Rattle.mr_groups.specs.Folding.{LoadsGroups, IsStuckByGroups}
 use Rattle.mr_groups.specs.Replaying.{IsReadUpTo, IsStuckByGroupsForGood}
 use Rattle.mr_groups.specs.Fronts.{EndsAt}

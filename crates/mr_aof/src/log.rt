@@ -49,14 +49,19 @@ impl<F: LogFile> Log<F> {
     /// Appends a piece, and syncs it in the mode `Always` alone. After a fault a beginning of the piece is there, which may be
     /// empty or all of it.
     pub fn append(&mut self, piece: &[u8]) -> Result<(), LogFault>
-        ensures ok { OnOk result (Appends (F.told self.old.file) (F.told self.new.file) piece.now (length piece.now)) }
-        ensures synced { self.old.mode ≡ SyncMode.Always → OnOk result (IsSynced (F.told self.new.file) (F.synced self.new.file)) }
-        ensures unsynced { self.old.mode ≡ SyncMode.No → F.synced self.new.file ≡ F.synced self.old.file }
-        ensures err { OnErr result (AppendsSome (F.told self.old.file) (F.told self.new.file) piece.now) }
+        ensures ok { OnOk result
+            (Appends (F.told self.old.file) (F.told self.new.file) piece.now (length piece.now)) }
+        ensures synced { self.old.mode ≡ SyncMode.Always →
+            OnOk result (IsSynced (F.told self.new.file) (F.synced self.new.file)) }
+        ensures unsynced { self.old.mode ≡ SyncMode.No →
+            F.synced self.new.file ≡ F.synced self.old.file }
+        ensures err { OnErr result
+            (AppendsSome (F.told self.old.file) (F.told self.new.file) piece.now) }
         ensures broken { IsErrOf result LogFault.Broken ↔ (self.old.broken ≡ true) }
         ensures untouched { self.old.broken ≡ true → self.new ≡ self.old }
         ensures later { F.failures self.old.file ≤ F.failures self.new.file }
-        ensures device { IsErrOf result LogFault.Device → Rose (F.failures self.old.file) (F.failures self.new.file) }
+        ensures device { IsErrOf result LogFault.Device →
+            Rose (F.failures self.old.file) (F.failures self.new.file) }
         ensures no_other { IsErrOf result LogFault.Memory → ⊥ }
         ensures after { (self.new.broken ≡ true) ↔ IsErr result }
         ensures mode { self.new.mode ≡ self.old.mode }
@@ -75,13 +80,16 @@ impl<F: LogFile> Log<F> {
 
     /// Puts these bytes in the place of all, synced in either mode. After a fault the old bytes are there, or the new ones.
     pub fn replace(&mut self, whole: &[u8]) -> Result<(), LogFault>
-        ensures ok { OnOk result (Replaces (F.told self.old.file) (F.told self.new.file) whole.now) }
+        ensures ok { OnOk result
+            (Replaces (F.told self.old.file) (F.told self.new.file) whole.now) }
         ensures synced { OnOk result (IsSynced (F.told self.new.file) (F.synced self.new.file)) }
-        ensures err { OnErr result (IsOldOrNew (F.told self.old.file) (F.told self.new.file) whole.now) }
+        ensures err { OnErr result
+            (IsOldOrNew (F.told self.old.file) (F.told self.new.file) whole.now) }
         ensures broken { IsErrOf result LogFault.Broken ↔ (self.old.broken ≡ true) }
         ensures untouched { self.old.broken ≡ true → self.new ≡ self.old }
         ensures later { F.failures self.old.file ≤ F.failures self.new.file }
-        ensures device { IsErrOf result LogFault.Device → Rose (F.failures self.old.file) (F.failures self.new.file) }
+        ensures device { IsErrOf result LogFault.Device →
+            Rose (F.failures self.old.file) (F.failures self.new.file) }
         ensures no_other { IsErrOf result LogFault.Memory → ⊥ }
         ensures after { (self.new.broken ≡ true) ↔ IsErr result }
         ensures mode { self.new.mode ≡ self.old.mode }
@@ -98,7 +106,8 @@ impl<F: LogFile> Log<F> {
 
 /// Appends all of a piece, in as many writes as it takes.
 fn write_all<F: LogFile>(file: &mut F, piece: &[u8]) -> Result<(), Failed>
-    ensures written { OnOk result (Appends (F.told file.old) (F.told file.new) piece.now (length piece.now)) }
+    ensures written { OnOk result
+        (Appends (F.told file.old) (F.told file.new) piece.now (length piece.now)) }
     ensures failed { OnErr result (AppendsSome (F.told file.old) (F.told file.new) piece.now) }
     ensures covered { F.synced file.new ≡ F.synced file.old }
     ensures later { F.failures file.old ≤ F.failures file.new }

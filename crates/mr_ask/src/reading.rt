@@ -34,7 +34,8 @@ pub fn read<'a, 't>(words: &'a [CowSlice<'t, u8>]) -> Result<Ask<'a, 't>, AskFau
 
     // of the words that a command carries
     ensures spelled { IfOk result (λ ask. Spells (map cow_slice_items words.now) ask) }
-    ensures fits { IsTrue (list_all fits (map cow_slice_items words.now)) → IfOk result (λ ask. AskFits ask) }
+    ensures fits { IsTrue (list_all fits (map cow_slice_items words.now)) →
+        IfOk result (λ ask. AskFits ask) }
 {
     command(words)
 }

@@ -93,7 +93,8 @@ impl Bytes {
 
 /// Puts zero bytes behind others, as many as are missing to a length. Where memory runs out, the bytes stay.
 fn fill_up(bytes: &mut Vec<u8>, len: usize) -> Result<(), AllocError>
-    ensures ok { OnOk result (bytes.new.items ≡ bytes.old.items ++ replicate (len - length bytes.old.items) 0) }
+    ensures ok { OnOk result (bytes.new.items ≡
+        bytes.old.items ++ replicate (len - length bytes.old.items) 0) }
     ensures err { OnErr result (bytes.new.items ≡ bytes.old.items) }
 {
     if bytes.len() < len {
@@ -105,7 +106,9 @@ fn fill_up(bytes: &mut Vec<u8>, len: usize) -> Result<(), AllocError>
 /// Writes a text over bytes, from an offset on.
 fn put(bytes: &mut Vec<u8>, offset: usize, text: &[u8])
     requires { offset + length text.now ≤ length bytes.old.items }
-    ensures { bytes.new.items ≡ take offset bytes.old.items ++ (text.now ++ drop (offset + length text.now) bytes.old.items) }
+    ensures { bytes.new.items ≡
+        take offset bytes.old.items ++
+        (text.now ++ drop (offset + length text.now) bytes.old.items) }
 {
     bytes[offset..offset + text.len()].copy_from_slice(text);
 }

@@ -15,7 +15,8 @@ const MOST_DIGITS: usize = 19;
 pub fn read_i64(text: &[u8]) -> Option<i64>
     ensures number { result ≡ number_of text.now }
     ensures spelled { IfSome result (λ n. text.now ≡ signed_decimal n) }
-    ensures other { IfNone result ((n : ℤ) → IsTrue (is_i64 n) → text.now ≢ signed_decimal n) }
+    ensures other { IfNone result ((n : ℤ) → IsTrue (is_i64 n) →
+        text.now ≢ signed_decimal n) }
 {
     match text {
         [b'-', digits @ ..] => read_below_zero(digits),
@@ -25,8 +26,10 @@ pub fn read_i64(text: &[u8]) -> Option<i64>
 
 /// The number that digits spell behind a `-`, if they spell one below 0 that has 64 bits.
 fn read_below_zero(digits: &[u8]) -> Option<i64>
-    ensures spelled { IfSome result (λ n. IsTrue (is_i64 n) × (45 ∷ digits.now ≡ signed_decimal n)) }
-    ensures other { IfNone result ((n : ℤ) → IsTrue (is_i64 n) → 45 ∷ digits.now ≢ signed_decimal n) }
+    ensures spelled { IfSome result (λ n. IsTrue (is_i64 n) ×
+        (45 ∷ digits.now ≡ signed_decimal n)) }
+    ensures other { IfNone result ((n : ℤ) → IsTrue (is_i64 n) →
+        45 ∷ digits.now ≢ signed_decimal n) }
 {
     negated(read_digits(digits)?)
 }

@@ -53,7 +53,8 @@ impl Client {
         host: &[u8],
         port: u16,
     ) -> Result<Client, Failed>
-        ensures link { IfOk result (λ client. Connects (W.links wire.old) host.now port client.link (W.links wire.new)) }
+        ensures link { IfOk result (λ client.
+            Connects (W.links wire.old) host.now port client.link (W.links wire.new)) }
         ensures begun { IfOk result (λ client. client ≡ begun client.link) }
         ensures err { OnErr result (AcceptsNone (W.links wire.old) (W.links wire.new)) }
         ensures cause { OnErr result (Rose (W.failures wire.old) (W.failures wire.new)) }
@@ -83,7 +84,8 @@ impl Client {
 
     /// Asks a request, which waits until it is sent.
     pub fn ask(&mut self, alloc: Global, words: &[CowSlice<'_, u8>]) -> Result<(), AllocError>
-        ensures ok { OnOk result (self.new ≡ asked (array (map cow_slice_items words.now)) self.old) }
+        ensures ok { OnOk result (self.new ≡
+            asked (array (map cow_slice_items words.now)) self.old) }
         ensures err { OnErr result (self.new ≡ self.old) }
     {
         let request = request_of(alloc, words)?;
@@ -115,8 +117,10 @@ impl Client {
 
     /// Takes in some of what came, through a buffer.
     pub fn hear<W: Wire>(&mut self, wire: &mut W, piece: &mut [u8]) -> Result<(), ClientFault>
-        ensures heard { IfOk result (λ _. Heard W.tells self.old self.new (W.links wire.old) (W.links wire.new)) }
-        ensures cause { IsErrOf result ClientFault.Link → Rose (W.failures wire.old) (W.failures wire.new) }
+        ensures heard { IfOk result (λ _.
+            Heard W.tells self.old self.new (W.links wire.old) (W.links wire.new)) }
+        ensures cause { IsErrOf result ClientFault.Link →
+            Rose (W.failures wire.old) (W.failures wire.new) }
     {
         match wire.read(self.link, piece) {
             Moved::Bytes(count) => match self.came.push(&piece[..count]) {

@@ -13,8 +13,10 @@ pub(crate) struct Line<'a> {
 
 /// The line that begins the bytes, where it is whole.
 pub(crate) fn first_line(bytes: &[u8]) -> Option<Line<'_>>
-    ensures some { IfSome result (λ line. BeginsWith bytes.now line.form line.text.now line.rest.now) }
-    ensures none { IfNone result ((form : ℕ) (text rest : List ℕ) → BeginsWith bytes.now form text rest → ⊥) }
+    ensures some { IfSome result (λ line.
+        BeginsWith bytes.now line.form line.text.now line.rest.now) }
+    ensures none { IfNone result ((form : ℕ) (text rest : List ℕ) →
+        BeginsWith bytes.now form text rest → ⊥) }
 {
     let Some(feed) = feed_of(bytes) else {
         return None;

@@ -7,7 +7,8 @@ use crate::head::head_at;
 /// How many bytes the reply has that begins the bytes. None where no whole reply does.
 pub fn reply_end(bytes: &[u8]) -> Option<usize>
     ensures some { IfSome result (λ n. (n ≤ length bytes.now) × IsReply (take n bytes.now)) }
-    ensures none { IfNone result ((text rest : List ℕ) → IsReply text → bytes.now ≢ text ++ rest) }
+    ensures none { IfNone result ((text rest : List ℕ) → IsReply text →
+        bytes.now ≢ text ++ rest) }
 {
     let mut at = 0;
     let mut left = 1;

@@ -9,9 +9,9 @@ use Rattle.mr_map.specs.Bytes.{Bytes, bytes_cmp}
 use Rattle.mr_bytes.specs.Number.{is_i64}
 use Rattle.mr_resp.specs.Replies as reply
 use Rattle.mr_resp.specs.ReplyView.{trees_of}
-use Rattle.mr_entries.specs.Collections.{with_fields, without_fields, with_members}
-use Rattle.mr_entries.proofs.Maps.{got}
-use Rattle.mr_room.specs.Taken.{is_key}
+use Rattle.mr_keyspace.specs.Collections.{with_fields, without_fields, with_members}
+use Rattle.mr_keyspace.proofs.Maps.{got}
+use Rattle.mr_cmd_shared.specs.Taken.{is_key}
 use Rattle.mr_cmd_hash.specs.Hashes.{Hash, count_reply, value_reply, hget, last_values, count_new, set_pairs, unchanged, overflow, number_at, increase_from, removed}
 use Rattle.mr_cmd_hash.specs.Laws.{SetCountsNewFields, SetIsRead, RemoveCountsFields, IncreaseIsRead, HMGetIsHGetOfEach}
 use Rattle.mr_cmd_hash.proofs.Fields.{Pair, AreApart, entries_apart, with_entries}

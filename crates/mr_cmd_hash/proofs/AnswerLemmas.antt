@@ -2,12 +2,12 @@
 use Rattle.std.proofs.Common.{◌≡◌, List, ◌++◌, Option, Some, None, sym, ◌∙◌, ap}
 use Rattle.mr_resp.specs.Replies.{Tree}
 use Rattle.mr_effect.specs.declared.effect.Effect.{Effect}
-use Rattle.mr_entries.specs.Steps.{hashes, held}
-use Rattle.mr_entries.specs.declared.value.Entry.{Entry}
+use Rattle.mr_keyspace.specs.Steps.{hashes, held}
+use Rattle.mr_keyspace.specs.declared.value.Entry.{Entry}
 use Rattle.mr_cmd_hash.specs.declared.hash_ask.HashAsk.{HashAsk}
-use Rattle.mr_room.specs.Answered.{Answered, Takes, wrong_kind}
-use Rattle.mr_room.specs.Collections.{changed}
-use Rattle.mr_room.proofs.PlanLemmas.{takes_reply}
+use Rattle.mr_cmd_shared.specs.Answered.{Answered, Takes, wrong_kind}
+use Rattle.mr_cmd_shared.specs.Collections.{changed}
+use Rattle.mr_cmd_shared.proofs.PlanLemmas.{takes_reply}
 use Rattle.mr_cmd_hash.specs.Hashes.{Hash}
 use Rattle.mr_cmd_hash.specs.Commands.{change, answer_of, Makes}
 

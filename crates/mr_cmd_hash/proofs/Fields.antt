@@ -12,10 +12,10 @@ use Rattle.std.proofs.lemmas.Cmp.{nat_list_cmp_total}
 use Rattle.std.proofs.lemmas.Map.Lookups.{exact_bytes}
 use Rattle.std.proofs.lemmas.Slice.Eq.{bytes_eq-Decides}
 use Rattle.mr_map.specs.Bytes.{Bytes, bytes_cmp}
-use Rattle.mr_entries.specs.Collections.{with_fields}
-use Rattle.mr_entries.proofs.Maps.{insert_same, same_key}
-use Rattle.mr_room.specs.Taken.{is_key}
-use Rattle.mr_entries.proofs.Puts.{is_key_itself, is_key_symm}
+use Rattle.mr_keyspace.specs.Collections.{with_fields}
+use Rattle.mr_keyspace.proofs.Maps.{insert_same, same_key}
+use Rattle.mr_cmd_shared.specs.Taken.{is_key}
+use Rattle.mr_keyspace.proofs.Puts.{is_key_itself, is_key_symm}
 use Rattle.mr_cmd_hash.specs.Hashes.{Hash, last_values, is_value, changed}
 
 abbrev pub Pair : Type 0

@@ -14,27 +14,27 @@ use Rattle.mr_resp.specs.Replies.{Tree}
 use Rattle.mr_effect.specs.Effects.{pair_fits, is_some_of}
 use Rattle.mr_effect.specs.declared.effect.Effect.{Effect}
 use Rattle.mr_effect.specs.declared.effect.Effect.TheVariants as effect
-use Rattle.mr_entries.specs.Dataset.{Dataset}
+use Rattle.mr_keyspace.specs.Dataset.{Dataset}
 use Rattle.mr_data.specs.Dataset.{IsDataset, live, is_expired}
-use Rattle.mr_entries.specs.Collections.{with_fields, without_fields}
-use Rattle.mr_entries.specs.Steps.{hashes, held, entry_of, deadline_of, on}
-use Rattle.mr_entries.specs.Changes.{change as made}
-use Rattle.mr_entries.specs.declared.value.Entry.{Entry}
+use Rattle.mr_keyspace.specs.Collections.{with_fields, without_fields}
+use Rattle.mr_keyspace.specs.Steps.{hashes, held, entry_of, deadline_of, on}
+use Rattle.mr_keyspace.specs.Changes.{change as made}
+use Rattle.mr_keyspace.specs.declared.value.Entry.{Entry}
 use Rattle.mr_data.proofs.Fitting.{no_fields, with_fields_fit}
-use Rattle.mr_entries.proofs.Nonempty.{without_fields_none, no_elements}
+use Rattle.mr_keyspace.proofs.Nonempty.{without_fields_none, no_elements}
 use Rattle.mr_arguments.specs.Pairing.{unpaired}
 use Rattle.mr_cmd_hash.specs.Carried.{hash_words}
 use Rattle.mr_cmd_hash.specs.declared.hash_ask.HashAsk.{HashAsk}
 use Rattle.mr_cmd_hash.specs.declared.hash_ask.HashAsk.TheVariants as ask
-use Rattle.mr_entries.specs.Cuts.{cut}
-use Rattle.mr_room.specs.Keys.{purged}
-use Rattle.mr_entries.proofs.Cutting.{cut_whole, no_cut, IsGroup, cut_groups}
+use Rattle.mr_keyspace.specs.Cuts.{cut}
+use Rattle.mr_cmd_shared.specs.Keys.{purged}
+use Rattle.mr_keyspace.proofs.Cutting.{cut_whole, no_cut, IsGroup, cut_groups}
 use Rattle.mr_data.proofs.Folds.{setting_fields, set_fields_is_step}
 use Rattle.mr_data.proofs.Running.{IsStep, steps_of, IsKept, IsFold, groups_run}
 use Rattle.mr_data.proofs.KindLaws.{hashes_are, hashes_kept}
-use Rattle.mr_room.proofs.Laws.{faithful, at_key_faithful, IsLawful}
-use Rattle.mr_room.proofs.Changing.{IsFaithfulChange, changing_faithful}
-use Rattle.mr_room.proofs.PlanLemmas.{purged_at}
+use Rattle.mr_cmd_shared.proofs.Laws.{faithful, at_key_faithful, IsLawful}
+use Rattle.mr_cmd_shared.proofs.Changing.{IsFaithfulChange, changing_faithful}
+use Rattle.mr_cmd_shared.proofs.PlanLemmas.{purged_at}
 use Rattle.mr_cmd_hash.specs.Hashes.{Hash, unchanged, last_values, changed, set_pairs, count_reply, hsetnx, number_at, overflow, no_integer, set_number, increase_from, hincrby, removed, hdel, fields_reply, count_new}
 use Rattle.mr_cmd_hash.specs.Commands.{key_of, change, answer_of, command}
 use Rattle.mr_cmd_hash.proofs.Fields.{all_map, own_entries, with_changed, none_changed}

@@ -4,8 +4,8 @@ use Rattle.std.specs.Prelude.{filter, if◌then◌else◌, Option, Some, None, i
 use Rattle.std.specs.Int.{from_bool}
 use Rattle.std.specs.Borrow.{Bor}
 use Rattle.mr_effect.specs.declared.effect.Effect.{Effect}
-use Rattle.mr_entries.specs.Cuts.{cut}
-use Rattle.mr_room.specs.Groups.{TakesItems}
+use Rattle.mr_keyspace.specs.Cuts.{cut}
+use Rattle.mr_cmd_shared.specs.Groups.{TakesItems}
 
 -- whether a look-up found something
 pub is_some-copied : {X : Type 0} (o : Option (Bor X)) → is_some o ≡ is_some (option_copied o)

@@ -9,10 +9,10 @@ use Rattle.std.proofs.lemmas.Cmp.{nat_list_cmp_total}
 use Rattle.std.proofs.lemmas.Map.Lookups.{exact_bytes}
 use Rattle.mr_map.specs.Bytes.{Bytes, ByteMap, bytes_cmp}
 use Rattle.mr_bytes.specs.Words.{fits}
-use Rattle.mr_entries.specs.Collections.{without_fields, with_members}
-use Rattle.mr_room.specs.Taken.{has, is_key}
-use Rattle.mr_entries.proofs.Maps.{same_key}
-use Rattle.mr_entries.proofs.Puts.{is_key_itself}
+use Rattle.mr_keyspace.specs.Collections.{without_fields, with_members}
+use Rattle.mr_cmd_shared.specs.Taken.{has, is_key}
+use Rattle.mr_keyspace.proofs.Maps.{same_key}
+use Rattle.mr_keyspace.proofs.Puts.{is_key_itself}
 use Rattle.mr_cmd_hash.specs.Hashes.{Hash, removed}
 use Rattle.mr_cmd_hash.proofs.Fields.{turned, left as is_below, right as are_sorted}
 

@@ -13,7 +13,7 @@ use Rattle.mr_resp.specs.Replies as reply
 use Rattle.mr_resp.specs.Replies.{Tree}
 use Rattle.mr_effect.specs.declared.effect.Effect.{Effect}
 use Rattle.mr_effect.specs.declared.effect.Effect.TheVariants as effect
-use Rattle.mr_entries.specs.Cuts.{cut}
+use Rattle.mr_keyspace.specs.Cuts.{cut}
 use Rattle.mr_cmd_hash.specs.Hashes.{Hash, is_value, changed, set_pairs, unchanged, count_reply, hsetnx, number_at, increase_from, hincrby, overflow, fields_reply, count_new, hset, removed, hdel}
 use Rattle.mr_cmd_hash.specs.declared.hash_ask.FieldsReply.{FieldsReply}
 use Rattle.mr_cmd_hash.specs.Commands.{Makes}

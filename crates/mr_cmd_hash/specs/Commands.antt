@@ -3,13 +3,13 @@ use Rattle.std.specs.Prelude.{◌≡◌, List, ◌++◌, Option}
 use Rattle.mr_map.specs.Bytes.{Bytes}
 use Rattle.mr_resp.specs.Replies.{Tree}
 use Rattle.mr_effect.specs.declared.effect.Effect.{Effect}
-use Rattle.mr_entries.specs.Steps.{hashes}
-use Rattle.mr_entries.specs.declared.value.Entry.{Entry}
+use Rattle.mr_keyspace.specs.Steps.{hashes}
+use Rattle.mr_keyspace.specs.declared.value.Entry.{Entry}
 use Rattle.mr_cmd_hash.specs.declared.hash_ask.HashAsk.{HashAsk}
 use Rattle.mr_cmd_hash.specs.declared.hash_ask.HashAsk.TheVariants as ask
-use Rattle.mr_room.specs.Answered.{Answered}
-use Rattle.mr_room.specs.Collections.{Change, changing}
-use Rattle.mr_room.specs.Commands.{Command, on_key}
+use Rattle.mr_cmd_shared.specs.Answered.{Answered}
+use Rattle.mr_cmd_shared.specs.Collections.{Change, changing}
+use Rattle.mr_cmd_shared.specs.Commands.{Command, on_key}
 use Rattle.mr_cmd_hash.specs.Hashes.{Hash, hset, hsetnx, hget, hmget, list_hash, hdel, hexists, hlen, hstrlen, hincrby}
 
 -- the key that a command names

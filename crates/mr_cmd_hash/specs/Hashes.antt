@@ -11,14 +11,14 @@ use Rattle.mr_resp.specs.Replies.{Tree}
 use Rattle.mr_resp.specs.ReplyView.{trees_of}
 use Rattle.mr_effect.specs.Spelling.{pair_words}
 use Rattle.mr_effect.specs.declared.effect.Effect.TheVariants as effect
-use Rattle.mr_entries.specs.Collections.{with_fields, without_fields, with_members}
+use Rattle.mr_keyspace.specs.Collections.{with_fields, without_fields, with_members}
 use Rattle.mr_cmd_hash.specs.declared.hash_ask.FieldsReply.{FieldsReply}
 use Rattle.mr_cmd_hash.specs.declared.hash_ask.FieldsReply.TheVariants as answer
 use Rattle.mr_cmd_hash.specs.declared.hash_ask.HashPart.{HashPart}
 use Rattle.mr_cmd_hash.specs.declared.hash_ask.HashPart.TheVariants as part
-use Rattle.mr_entries.specs.Cuts.{cut}
-use Rattle.mr_room.specs.Answered.{done}
-use Rattle.mr_room.specs.Collections.{Change}
+use Rattle.mr_keyspace.specs.Cuts.{cut}
+use Rattle.mr_cmd_shared.specs.Answered.{done}
+use Rattle.mr_cmd_shared.specs.Collections.{Change}
 
 abbrev pub Hash : Type 0
 Hash = ByteMap Bytes

@@ -5,17 +5,17 @@ ghost use Rattle.std.specs.FinMap.{empty};
 ghost use Rattle.mr_resp.specs.ReplyView.{view};
 ghost use Rattle.mr_bytes.specs.Words.{fits};
 ghost use Rattle.mr_data.specs.Dataset.{IsDataset};
-ghost use Rattle.mr_entries.specs.Steps.{hashes, held};
+ghost use Rattle.mr_keyspace.specs.Steps.{hashes, held};
 ghost use Rattle.mr_cmd_hash.specs.Carried.{hash_words};
-ghost use Rattle.mr_room.specs.Commands.{IsPlan, IsFaithful, HasCommandTexts};
+ghost use Rattle.mr_cmd_shared.specs.Commands.{IsPlan, IsFaithful, HasCommandTexts};
 ghost use Rattle.mr_cmd_hash.specs.Commands.{key_of, change, command, Makes};
 
 use crate::hash_ask::HashAsk;
 use crate::{reading, removing, setting};
 use mr_arguments::Argument;
+use mr_cmd_shared::{Effects, look, wrong_kind};
 use mr_data::{Dataset, Entry, Given, Plan, Value};
 use mr_resp::Reply;
-use mr_room::{Effects, look, wrong_kind};
 use mr_value::Hash;
 use std::alloc::{AllocError, Global};
 
@@ -26,13 +26,16 @@ pub fn plan(
     ask: &HashAsk<'_, '_>,
     given: Given,
 ) -> Result<Plan, AllocError>
-    ensures plan { IfOk result (λ p. IsPlan (command ask.now) given.now held.now (view p.reply) p.effects.items) }
+    ensures plan { IfOk result (λ p.
+        IsPlan (command ask.now) given.now held.now (view p.reply) p.effects.items) }
 
     // The effects lead to what the command leaves, and its own ones are there exactly where it changes something.
-    ensures faithful { IsTrue (list_all fits (hash_words ask.now)) → IsFaithful (command ask.now) given.now held.now }
+    ensures faithful { IsTrue (list_all fits (hash_words ask.now)) →
+        IsFaithful (command ask.now) given.now held.now }
 
     // .. and their texts are command texts.
-    ensures texts { IsTrue (list_all fits (hash_words ask.now)) → HasCommandTexts (command ask.now) given.now held.now }
+    ensures texts { IsTrue (list_all fits (hash_words ask.now)) →
+        HasCommandTexts (command ask.now) given.now held.now }
 {
     planned(alloc, held, ask, given)
 }
@@ -44,7 +47,8 @@ fn planned(
     ask: &HashAsk<'_, '_>,
     given: Given,
 ) -> Result<Plan, AllocError>
-    ensures plan { IfOk result (λ p. IsPlan (command ask.now) given.now held.now (view p.reply) p.effects.items) }
+    ensures plan { IfOk result (λ p.
+        IsPlan (command ask.now) given.now held.now (view p.reply) p.effects.items) }
     ensures kept { IsDataset held.now }
 {
     let mut effects = Effects::new(alloc);

@@ -5,8 +5,8 @@ ghost use Rattle.mr_cmd_hash.specs.Hashes.{value_reply, hget, hmget, list_hash, 
 
 use crate::hash_ask::HashPart;
 use mr_arguments::{Argument, Words};
+use mr_cmd_shared::{count, integer};
 use mr_resp::Reply;
-use mr_room::{count, integer};
 use mr_value::Hash;
 use std::alloc::{AllocError, Global};
 

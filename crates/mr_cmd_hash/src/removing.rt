@@ -3,16 +3,16 @@ ghost use Rattle.std.specs.Prelude.{◌≡◌, ◌<◌, ◌^◌, [], ◌∷◌, 
 ghost use Rattle.std.specs.FinMap.{empty, keys, contains_key};
 ghost use Rattle.mr_resp.specs.ReplyView.{view};
 ghost use Rattle.mr_effect.specs.declared.effect.Effect.TheVariants as made;
-ghost use Rattle.mr_entries.specs.Collections.{with_members};
-ghost use Rattle.mr_entries.specs.Cuts.{cut};
+ghost use Rattle.mr_keyspace.specs.Collections.{with_members};
+ghost use Rattle.mr_keyspace.specs.Cuts.{cut};
 ghost use Rattle.mr_cmd_hash.specs.Hashes.{hdel};
 ghost use Rattle.mr_cmd_hash.specs.Commands.{Makes};
 
 use crate::groups::{FieldGroup, end_fields};
 use mr_arguments::{Argument, Words};
+use mr_cmd_shared::{Effects, count};
 use mr_map::SliceMap;
 use mr_resp::Reply;
-use mr_room::{Effects, count};
 use mr_value::Hash;
 use std::alloc::{AllocError, Global};
 
@@ -35,9 +35,12 @@ fn push_removed(
     hash: &Hash,
     effects: &mut Effects,
 ) -> Result<usize, AllocError>
-    ensures removed { IfOk result (λ removed. removed ≡ length (filter (contains_key hash.now) (keys names.now))) }
+    ensures removed { IfOk result (λ removed.
+        removed ≡ length (filter (contains_key hash.now) (keys names.now))) }
     ensures small { IfOk result (λ removed. removed < 2 ^ 63) }
-    ensures effects { OnOk result (effects.new ≡ effects.old ++ map (made.RemoveFields key.now) (cut (filter (contains_key hash.now) (keys names.now)))) }
+    ensures effects { OnOk result (effects.new ≡
+        effects.old ++
+        map (made.RemoveFields key.now) (cut (filter (contains_key hash.now) (keys names.now)))) }
 {
     let mut group = FieldGroup::new(alloc, key.as_slice());
     let mut removed = names.len();
@@ -59,7 +62,8 @@ fn remove_field(
     hash: &Hash,
     effects: &mut Effects,
 ) -> Result<Reply, AllocError>
-    ensures { IfOk result (λ r. Makes (hdel key.now (field.now ∷ []) hash.now) (view r) effects.old effects.new) }
+    ensures { IfOk result (λ r.
+        Makes (hdel key.now (field.now ∷ []) hash.now) (view r) effects.old effects.new) }
 {
     let there = hash.contains(field);
     let mut group = FieldGroup::new(alloc, key.as_slice());
@@ -76,7 +80,8 @@ pub fn hdel(
     hash: &Hash,
     effects: &mut Effects,
 ) -> Result<Reply, AllocError>
-    ensures { IfOk result (λ r. Makes (hdel key.now fields.now hash.now) (view r) effects.old effects.new) }
+    ensures { IfOk result (λ r.
+        Makes (hdel key.now fields.now hash.now) (view r) effects.old effects.new) }
 {
     if let [field] = fields.as_slice() {
         return remove_field(alloc, key, field.as_slice(), hash, effects);

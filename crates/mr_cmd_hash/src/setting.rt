@@ -3,7 +3,7 @@ ghost use Rattle.std.specs.Prelude.{◌≡◌, ◌≢◌, ◌<◌, ◌^◌, [], 
 ghost use Rattle.std.specs.FinMap.{entries, get, contains_key};
 ghost use Rattle.mr_resp.specs.ReplyView.{view};
 ghost use Rattle.mr_effect.specs.declared.effect.Effect.TheVariants as made;
-ghost use Rattle.mr_entries.specs.Cuts.{cut};
+ghost use Rattle.mr_keyspace.specs.Cuts.{cut};
 ghost use Rattle.mr_cmd_hash.specs.Hashes.{is_value, last_values, fields_reply, hset, hsetnx, number_at, hincrby};
 ghost use Rattle.mr_cmd_hash.specs.Commands.{Makes};
 
@@ -13,9 +13,9 @@ use crate::replies::{no_integer, overflow};
 use itoa::Buffer;
 use mr_arguments::{Argument, WordPairs};
 use mr_bytes::read_i64;
+use mr_cmd_shared::{Effects, count, done, integer};
 use mr_map::SliceMap;
 use mr_resp::Reply;
-use mr_room::{Effects, count, done, integer};
 use mr_value::Hash;
 use std::alloc::{AllocError, Global};
 
@@ -41,9 +41,13 @@ fn push_changed(
     hash: &Hash,
     effects: &mut Effects,
 ) -> Result<usize, AllocError>
-    ensures new { IfOk result (λ new. new ≡ length (filter (λ p. not (contains_key hash.now p.0)) (entries values.now))) }
+    ensures new { IfOk result (λ new.
+        new ≡ length (filter (λ p. not (contains_key hash.now p.0)) (entries values.now))) }
     ensures small { IfOk result (λ new. new < 2 ^ 63) }
-    ensures effects { OnOk result (effects.new ≡ effects.old ++ map (made.SetFields key.now) (cut (filter (λ p. not (is_value p.1 (get hash.now p.0))) (entries values.now)))) }
+    ensures effects { OnOk result (effects.new ≡
+        effects.old ++
+        map (made.SetFields key.now)
+        (cut (filter (λ p. not (is_value p.1 (get hash.now p.0))) (entries values.now)))) }
 {
     let mut group = PairGroup::new(alloc, key.as_slice());
     let mut new = values.len();
@@ -87,7 +91,11 @@ fn push_pair(
     before: Option<&[u8]>,
     effects: &mut Effects,
 ) -> Result<(), AllocError>
-    ensures { OnOk result (effects.new ≡ effects.old ++ map (made.SetFields key.now) (cut (if is_value value.now (option_copied before.entry) then [] else (field.now, value.now) ∷ []))) }
+    ensures { OnOk result (effects.new ≡
+        effects.old ++
+        map (made.SetFields key.now)
+        (cut (if is_value value.now (option_copied before.entry) then []
+        else (field.now, value.now) ∷ []))) }
 {
     let mut group = PairGroup::new(alloc, key.as_slice());
     group.push(field, value, before, effects)?;
@@ -106,7 +114,9 @@ fn set_field(
     hash: &Hash,
     effects: &mut Effects,
 ) -> Result<Reply, AllocError>
-    ensures { IfOk result (λ r. Makes (hset key.now reply ((field.now, value.now) ∷ []) hash.now) (view r) effects.old effects.new) }
+    ensures { IfOk result (λ r.
+        Makes (hset key.now reply ((field.now, value.now) ∷ []) hash.now) (view r) effects.old
+        effects.new) }
 {
     let before = hash.get(field);
     push_pair(alloc, key, field, value, before, effects)?;
@@ -122,7 +132,8 @@ pub fn hset(
     hash: &Hash,
     effects: &mut Effects,
 ) -> Result<Reply, AllocError>
-    ensures { IfOk result (λ r. Makes (hset key.now reply pairs.now hash.now) (view r) effects.old effects.new) }
+    ensures { IfOk result (λ r.
+        Makes (hset key.now reply pairs.now hash.now) (view r) effects.old effects.new) }
 {
     if let Some((field, value)) = only_pair(pairs) {
         return set_field(alloc, key, field, value, reply, hash, effects);
@@ -141,7 +152,8 @@ pub fn hsetnx(
     hash: &Hash,
     effects: &mut Effects,
 ) -> Result<Reply, AllocError>
-    ensures { IfOk result (λ r. Makes (hsetnx key.now field.now value.now hash.now) (view r) effects.old effects.new) }
+    ensures { IfOk result (λ r.
+        Makes (hsetnx key.now field.now value.now hash.now) (view r) effects.old effects.new) }
 {
     if hash.contains(field.as_slice()) {
         return Ok(integer(0));
@@ -176,7 +188,8 @@ pub fn hincrby(
     hash: &Hash,
     effects: &mut Effects,
 ) -> Result<Reply, AllocError>
-    ensures { IfOk result (λ r. Makes (hincrby key.now field.now by hash.now) (view r) effects.old effects.new) }
+    ensures { IfOk result (λ r.
+        Makes (hincrby key.now field.now by hash.now) (view r) effects.old effects.new) }
 {
     let before = hash.get(field.as_slice());
     let Some(number) = number_at(before) else {

@@ -10,13 +10,13 @@ use Rattle.mr_bytes.specs.Words.{fits}
 use Rattle.mr_effect.specs.Effects.{is_deadline}
 use Rattle.mr_effect.specs.declared.effect.Effect.TheVariants as effect
 use Rattle.mr_effect.proofs.Texts.{short_effect}
-use Rattle.mr_entries.specs.Dataset.{Dataset, put_at}
-use Rattle.mr_entries.specs.Changes.{change}
-use Rattle.mr_entries.specs.Steps.{expire_step, persist_step}
-use Rattle.mr_entries.specs.declared.value.Entry.{Entry}
+use Rattle.mr_keyspace.specs.Dataset.{Dataset, put_at}
+use Rattle.mr_keyspace.specs.Changes.{change}
+use Rattle.mr_keyspace.specs.Steps.{expire_step, persist_step}
+use Rattle.mr_keyspace.specs.declared.value.Entry.{Entry}
 use Rattle.mr_data.specs.Dataset.{IsDataset, IsLifetime, live, is_expired}
 use Rattle.mr_data.specs.Meaning.{apply, apply_all}
-use Rattle.mr_room.proofs.Laws.{IsFaithfulAnswer, if_faithful, kept_faithful, one_short}
+use Rattle.mr_cmd_shared.proofs.Laws.{IsFaithfulAnswer, if_faithful, kept_faithful, one_short}
 use Rattle.mr_cmd_key.specs.declared.key_ask.ExpireCondition.{ExpireCondition}
 use Rattle.mr_cmd_key.specs.Expiring.{allows, with_deadline, is_until, lasting, ended, expire_answer, endless, persist_answer, CanBeNamed}
 

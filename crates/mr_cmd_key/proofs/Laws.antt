@@ -6,15 +6,15 @@ use Rattle.std.specs.FinMap.{len}
 use Rattle.mr_map.specs.Bytes.{Bytes}
 use Rattle.mr_bytes.specs.Words.{fits}
 use Rattle.mr_resp.specs.Replies as reply
-use Rattle.mr_entries.specs.Dataset.{Dataset}
+use Rattle.mr_keyspace.specs.Dataset.{Dataset}
 use Rattle.mr_cmd_key.specs.Carried.{key_words}
 use Rattle.mr_expiry.specs.Expiry.{deadline_at}
 use Rattle.mr_cmd_key.specs.declared.key_ask.KeyAsk.{KeyAsk}
 use Rattle.mr_cmd_key.specs.declared.key_ask.KeyAsk.TheVariants as ask
-use Rattle.mr_room.specs.Keys.{chosen, without, dels}
-use Rattle.mr_room.specs.Commands.{on_keys}
-use Rattle.mr_room.proofs.KeyLists.{dels_lead, chosen_fits, without_chosen, none_chosen}
-use Rattle.mr_room.proofs.Laws.{faithful, IsFaithfulAt, by_answer, by_telling, keys_answered, none_answered, IsLawful, dels_short}
+use Rattle.mr_cmd_shared.specs.Keys.{chosen, without, dels}
+use Rattle.mr_cmd_shared.specs.Commands.{on_keys}
+use Rattle.mr_cmd_shared.proofs.KeyLists.{dels_lead, chosen_fits, without_chosen, none_chosen}
+use Rattle.mr_cmd_shared.proofs.Laws.{faithful, IsFaithfulAt, by_answer, by_telling, keys_answered, none_answered, IsLawful, dels_short}
 use Rattle.mr_cmd_key.specs.Kinds.{type_reply}
 use Rattle.mr_cmd_key.specs.Outcomes.{deleted, present}
 use Rattle.mr_cmd_key.specs.Listing.{listed, bulks, scan_reply, from_cursor}

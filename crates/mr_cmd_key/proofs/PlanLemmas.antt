@@ -1,22 +1,22 @@
 -- Plans from what was seen at several keys.
 use Rattle.std.proofs.Common.{◌≡◌, List, [], ◌∷◌, ◌++◌, append_assoc, append-nil, length, true, ℤ, pos, refl, sym, ◌∙◌, ap, arith}
 use Rattle.std.specs.Prelude.{is_some, if◌then◌else◌, option_copied, Option, Some, None, false, Bool, ℕ, ◌+◌, ◌<◌, ◌≤◌, map, take, get_or}
-use Rattle.mr_entries.specs.declared.value.Entry.{Entry}
+use Rattle.mr_keyspace.specs.declared.value.Entry.{Entry}
 use Rattle.std.specs.Borrow.{Bor}
 use Rattle.std.specs.Int.{from_bool}
 use Rattle.std.specs.FinMap.{get}
 use Rattle.mr_map.specs.Bytes.{Bytes}
 use Rattle.mr_resp.specs.Replies as reply
 use Rattle.mr_resp.specs.Replies.{Tree}
-use Rattle.mr_entries.specs.Dataset.{Dataset}
+use Rattle.mr_keyspace.specs.Dataset.{Dataset}
 use Rattle.mr_data.specs.Dataset.{live, seen}
 use Rattle.mr_data.proofs.Seeing.{get-seen}
 use Rattle.mr_effect.specs.declared.effect.Effect.{Effect}
 use Rattle.mr_effect.specs.declared.effect.Effect.TheVariants as effect
-use Rattle.mr_room.specs.Keys.{chosen, dels, is_stored, expired}
-use Rattle.mr_room.specs.Commands.{Plans, on_keys}
-use Rattle.mr_room.proofs.KeyLists.{live_test, present_seen, present_purged, more_words}
-use Rattle.mr_room.proofs.PlanLemmas.{on_keys_plans}
+use Rattle.mr_cmd_shared.specs.Keys.{chosen, dels, is_stored, expired}
+use Rattle.mr_cmd_shared.specs.Commands.{Plans, on_keys}
+use Rattle.mr_cmd_shared.proofs.KeyLists.{live_test, present_seen, present_purged, more_words}
+use Rattle.mr_cmd_shared.proofs.PlanLemmas.{on_keys_plans}
 use Rattle.mr_cmd_key.specs.Outcomes.{one_if, present, present_at, deleted, counted}
 
 pub del_plans : (ks : List Bytes) (now : ℤ) (m : Dataset) (n : ℤ) (old first new : List Effect) → first ≡ old ++ dels (chosen (is_stored now true) ks m) → n ≡ pos (length (chosen (is_stored now false) ks m)) → new ≡ first ++ dels (chosen (is_stored now false) ks m) → Plans (on_keys ks (deleted ks)) now m (reply.int n) old new

@@ -13,23 +13,23 @@ use Rattle.mr_map.specs.Bytes.{Bytes, bytes_cmp}
 use Rattle.mr_bytes.specs.Words.{fits}
 use Rattle.mr_resp.specs.Replies as reply
 use Rattle.mr_resp.specs.Replies.{Tree}
-use Rattle.mr_entries.specs.Dataset.{Dataset}
+use Rattle.mr_keyspace.specs.Dataset.{Dataset}
 use Rattle.mr_data.specs.Dataset.{live, seen}
-use Rattle.mr_entries.specs.Changes.{change}
+use Rattle.mr_keyspace.specs.Changes.{change}
 use Rattle.mr_data.specs.Meaning.{apply, apply_all}
-use Rattle.mr_entries.specs.declared.value.Entry.{Entry}
+use Rattle.mr_keyspace.specs.declared.value.Entry.{Entry}
 use Rattle.mr_data.proofs.Seeing.{get-seen}
 use Rattle.mr_effect.specs.declared.effect.Effect.{Effect}
 use Rattle.mr_effect.specs.declared.effect.Effect.TheVariants as effect
-use Rattle.mr_room.specs.Taken.{is_key, has}
-use Rattle.mr_room.specs.Keys.{expired, purged, dels, is_stored}
-use Rattle.mr_room.specs.Answered.{done}
-use Rattle.mr_room.specs.Outcomes.{Outcome, answered}
-use Rattle.mr_room.specs.Commands.{Command, on_keys, on_none, before, Plans}
-use Rattle.mr_entries.proofs.Maps.{same_key}
-use Rattle.mr_entries.proofs.Puts.{is_key_itself, get_remove, removed}
-use Rattle.mr_room.proofs.KeyLists.{get_purged}
-use Rattle.mr_room.proofs.Laws.{faithful, IsFaithfulAt, answered_faithful, IsLawful, one_short}
+use Rattle.mr_cmd_shared.specs.Taken.{is_key, has}
+use Rattle.mr_cmd_shared.specs.Keys.{expired, purged, dels, is_stored}
+use Rattle.mr_cmd_shared.specs.Answered.{done}
+use Rattle.mr_cmd_shared.specs.Outcomes.{Outcome, answered}
+use Rattle.mr_cmd_shared.specs.Commands.{Command, on_keys, on_none, before, Plans}
+use Rattle.mr_keyspace.proofs.Maps.{same_key}
+use Rattle.mr_keyspace.proofs.Puts.{is_key_itself, get_remove, removed}
+use Rattle.mr_cmd_shared.proofs.KeyLists.{get_purged}
+use Rattle.mr_cmd_shared.proofs.Laws.{faithful, IsFaithfulAt, answered_faithful, IsLawful, one_short}
 use Rattle.mr_cmd_key.specs.Renaming.{no_key, carried, carried_if, renamed, renamed_nx, cleared, Gives}
 use Rattle.mr_effect.proofs.Texts.{short_effect}
 

@@ -1,6 +1,6 @@
 -- The commands on keys whatever they hold.
 use Rattle.std.specs.Prelude.{ℤ, [], ◌∷◌}
-use Rattle.mr_room.specs.Commands.{Command, on_key, on_keys, on_none}
+use Rattle.mr_cmd_shared.specs.Commands.{Command, on_key, on_keys, on_none}
 use Rattle.mr_expiry.specs.Expiry.{deadline_at}
 use Rattle.mr_cmd_key.specs.declared.key_ask.KeyAsk.{KeyAsk}
 use Rattle.mr_cmd_key.specs.declared.key_ask.KeyAsk.TheVariants as ask

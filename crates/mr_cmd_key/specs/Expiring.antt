@@ -6,8 +6,8 @@ use Rattle.mr_map.specs.Bytes.{Bytes}
 use Rattle.mr_resp.specs.Replies as reply
 use Rattle.mr_effect.specs.Effects.{is_deadline}
 use Rattle.mr_effect.specs.declared.effect.Effect.TheVariants as effect
-use Rattle.mr_entries.specs.declared.value.Entry.{Entry}
-use Rattle.mr_room.specs.Answered.{Answered, kept}
+use Rattle.mr_keyspace.specs.declared.value.Entry.{Entry}
+use Rattle.mr_cmd_shared.specs.Answered.{Answered, kept}
 use Rattle.mr_cmd_key.specs.declared.key_ask.ExpireCondition.{ExpireCondition}
 use Rattle.mr_cmd_key.specs.declared.key_ask.ExpireCondition.TheVariants as condition
 use Rattle.mr_cmd_key.specs.declared.expiring.DeadlineForm.{DeadlineForm}

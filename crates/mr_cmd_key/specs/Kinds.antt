@@ -2,10 +2,10 @@
 use Rattle.std.specs.Prelude.{codes, Option, Some, None}
 use Rattle.mr_resp.specs.Replies as reply
 use Rattle.mr_resp.specs.Replies.{Tree}
-use Rattle.mr_entries.specs.declared.value.Value.{Value}
-use Rattle.mr_entries.specs.declared.value.Value.TheVariants as value
-use Rattle.mr_entries.specs.declared.value.Entry.{Entry}
-use Rattle.mr_room.specs.Answered.{Answered, kept}
+use Rattle.mr_keyspace.specs.declared.value.Value.{Value}
+use Rattle.mr_keyspace.specs.declared.value.Value.TheVariants as value
+use Rattle.mr_keyspace.specs.declared.value.Entry.{Entry}
+use Rattle.mr_cmd_shared.specs.Answered.{Answered, kept}
 
 -- TYPE key: the kind of its value
 abbrev pub kind_name : Value → Tree

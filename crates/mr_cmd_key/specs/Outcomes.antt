@@ -3,10 +3,10 @@ use Rattle.std.specs.Prelude.{ℕ, ℤ, pos, ◌+◌, List, [], ◌∷◌, lengt
 use Rattle.std.specs.FinMap.{get}
 use Rattle.mr_map.specs.Bytes.{Bytes}
 use Rattle.mr_resp.specs.Replies as reply
-use Rattle.mr_entries.specs.Dataset.{Dataset}
+use Rattle.mr_keyspace.specs.Dataset.{Dataset}
 use Rattle.mr_data.specs.Dataset.{live}
-use Rattle.mr_room.specs.Keys.{chosen, without, dels}
-use Rattle.mr_room.specs.Outcomes.{Outcome, answered}
+use Rattle.mr_cmd_shared.specs.Keys.{chosen, without, dels}
+use Rattle.mr_cmd_shared.specs.Outcomes.{Outcome, answered}
 
 -- DEL key [key ..], UNLINK the same: those that are there go, and are counted
 abbrev pub deleted : List Bytes → Dataset → Outcome

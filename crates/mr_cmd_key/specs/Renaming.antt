@@ -7,10 +7,10 @@ use Rattle.mr_resp.specs.Replies as reply
 use Rattle.mr_resp.specs.Replies.{Tree}
 use Rattle.mr_effect.specs.declared.effect.Effect.{Effect}
 use Rattle.mr_effect.specs.declared.effect.Effect.TheVariants as effect
-use Rattle.mr_entries.specs.Dataset.{Dataset}
-use Rattle.mr_entries.specs.declared.value.Entry.{Entry}
-use Rattle.mr_room.specs.Answered.{done}
-use Rattle.mr_room.specs.Outcomes.{Outcome, answered}
+use Rattle.mr_keyspace.specs.Dataset.{Dataset}
+use Rattle.mr_keyspace.specs.declared.value.Entry.{Entry}
+use Rattle.mr_cmd_shared.specs.Answered.{done}
+use Rattle.mr_cmd_shared.specs.Outcomes.{Outcome, answered}
 
 abbrev pub no_key : Tree
 no_key = reply.error (codes "ERR no such key")

@@ -5,8 +5,8 @@ ghost use Rattle.std.specs.Cow.{cow_slice_items};
 ghost use Rattle.mr_data.specs.Dataset.{live};
 ghost use Rattle.mr_cmd_key.specs.Outcomes.{present_at};
 
+use mr_cmd_shared::see;
 use mr_data::{Dataset, Given};
-use mr_room::see;
 use std::borrow::CowSlice;
 
 /// Whether a key is there and not expired.

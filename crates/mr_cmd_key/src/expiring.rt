@@ -3,15 +3,15 @@ ghost use Rattle.std.specs.Prelude.{◌≡◌, ◌≤ℤ◌, pos, IfOk, IfSome, 
 ghost use Rattle.mr_resp.specs.ReplyView.{view};
 ghost use Rattle.mr_effect.specs.Effects.{last_deadline};
 ghost use Rattle.mr_data.specs.Dataset.{IsLifetime};
-ghost use Rattle.mr_room.specs.Answered.{Takes};
+ghost use Rattle.mr_cmd_shared.specs.Answered.{Takes};
 ghost use Rattle.mr_cmd_key.specs.Expiring.{allows, deadline_in, expire_answer, in_seconds, is_until, lifetime_in, persist_answer, answered_in};
 
 use crate::key_ask::ExpireCondition;
 use mr_arguments::Argument;
 use mr_bytes::Word;
+use mr_cmd_shared::{Effects, count};
 use mr_data::{Effect, Entry, Given};
 use mr_resp::Reply;
-use mr_room::{Effects, count};
 use std::alloc::{AllocError, Global};
 
 /// `EXPIRE` and its kin
@@ -24,7 +24,9 @@ pub fn expire(
     given: Given,
     effects: &mut Effects,
 ) -> Result<Reply, AllocError>
-    ensures { IfOk result (λ r. Takes (expire_answer key.now condition given.now deadline (option_copied live_entry.entry)) (view r) effects.old effects.new) }
+    ensures { IfOk result (λ r.
+        Takes (expire_answer key.now condition given.now deadline (option_copied live_entry.entry))
+        (view r) effects.old effects.new) }
 {
     let Some(entry) = live_entry else {
         return Ok(count(0));
@@ -81,7 +83,9 @@ pub fn persist(
     live_entry: Option<&Entry>,
     effects: &mut Effects,
 ) -> Result<Reply, AllocError>
-    ensures { IfOk result (λ r. Takes (persist_answer key.now (option_copied live_entry.entry)) (view r) effects.old effects.new) }
+    ensures { IfOk result (λ r.
+        Takes (persist_answer key.now (option_copied live_entry.entry)) (view r) effects.old
+        effects.new) }
 {
     let Some(entry) = live_entry else {
         return Ok(count(0));

@@ -6,10 +6,10 @@ ghost use Rattle.mr_cmd_key.specs.Listing.{is_matched, is_listed_at, listed_at, 
 
 use crate::key_ask::{Cursor, KindName};
 use crate::kinds::is_of_kind;
+use mr_cmd_shared::{bulk, is_all_live, see};
 use mr_data::{Dataset, Given};
 use mr_glob::glob;
 use mr_resp::Reply;
-use mr_room::{bulk, is_all_live, see};
 use std::alloc::{AllocError, Global};
 
 /// The keys that match and are of the kind, in byte order.
@@ -20,7 +20,8 @@ pub fn list_keys(
     kind: Option<KindName>,
     given: Given,
 ) -> Result<Reply, AllocError>
-    ensures { IfOk result (λ r. view r ≡ bulks (listed_at given.now (option_copied pattern.entry) kind held.now)) }
+    ensures { IfOk result (λ r.
+        view r ≡ bulks (listed_at given.now (option_copied pattern.entry) kind held.now)) }
 {
     // to look each of the keys up takes longer than all else
     if kind.is_none() && is_all_live(held, given) {
@@ -31,7 +32,8 @@ pub fn list_keys(
 
 /// The keys that match, expired ones too, in byte order. None of them is looked up.
 fn list_matched(alloc: Global, held: &Dataset, pattern: Option<&[u8]>) -> Result<Reply, AllocError>
-    ensures { IfOk result (λ r. view r ≡ bulks (filter (is_matched (option_copied pattern.entry)) (keys held.now))) }
+    ensures { IfOk result (λ r.
+        view r ≡ bulks (filter (is_matched (option_copied pattern.entry)) (keys held.now))) }
 {
     let mut replies = Vec::new(alloc);
     for key in held.keys() {
@@ -50,7 +52,8 @@ fn list_seen(
     kind: Option<KindName>,
     given: Given,
 ) -> Result<Reply, AllocError>
-    ensures { IfOk result (λ r. view r ≡ bulks (listed_at given.now (option_copied pattern.entry) kind held.now)) }
+    ensures { IfOk result (λ r.
+        view r ≡ bulks (listed_at given.now (option_copied pattern.entry) kind held.now)) }
 {
     let mut replies = Vec::new(alloc);
     for key in held.keys() {
@@ -69,7 +72,8 @@ fn is_listed(
     kind: Option<KindName>,
     given: Given,
 ) -> bool
-    ensures { result ≡ is_listed_at given.now (option_copied pattern.entry) kind held.now key.now }
+    ensures { result ≡
+        is_listed_at given.now (option_copied pattern.entry) kind held.now key.now }
 {
     is_matched(pattern, key) && is_of_kind(kind, see(held, key, given).0)
 }
@@ -93,7 +97,9 @@ pub fn scan(
     kind: Option<KindName>,
     given: Given,
 ) -> Result<Reply, AllocError>
-    ensures { IfOk result (λ r. view r ≡ scan_reply (from_cursor cursor (listed_at given.now (option_copied pattern.entry) kind held.now))) }
+    ensures { IfOk result (λ r.
+        view r ≡ scan_reply
+        (from_cursor cursor (listed_at given.now (option_copied pattern.entry) kind held.now))) }
 {
     let keys = match cursor {
         Cursor::Start => list_keys(alloc, held, pattern, kind, given)?,

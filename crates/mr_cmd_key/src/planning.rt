@@ -6,7 +6,7 @@ ghost use Rattle.mr_resp.specs.ReplyView.{view};
 ghost use Rattle.mr_data.specs.Dataset.{seen};
 ghost use Rattle.mr_cmd_key.specs.Carried.{key_words};
 ghost use Rattle.mr_expiry.specs.Expiry.{deadline_at};
-ghost use Rattle.mr_room.specs.Commands.{IsPlan, Plans, IsFaithful, HasCommandTexts, on_key, on_keys, on_none};
+ghost use Rattle.mr_cmd_shared.specs.Commands.{IsPlan, Plans, IsFaithful, HasCommandTexts, on_key, on_keys, on_none};
 ghost use Rattle.mr_cmd_key.specs.Commands.{command, HasDeadline};
 ghost use Rattle.mr_cmd_key.specs.Kinds.{type_answer};
 ghost use Rattle.mr_cmd_key.specs.Expiring.{expire_answer, persist_answer, deadline_answer};
@@ -21,10 +21,10 @@ use crate::renaming::{rename, renamenx};
 use crate::{expiring, kinds, listing};
 use mr_arguments::{Argument, Words};
 use mr_bytes::Word;
+use mr_cmd_shared::{Effects, count, done, integer, look, push_dels};
 use mr_data::{Dataset, Effect, Given, Plan};
 use mr_expiry::Expiry;
 use mr_resp::Reply;
-use mr_room::{Effects, count, done, integer, look, push_dels};
 use std::alloc::{AllocError, Global};
 
 /// What a command on keys is answered, and its effects. The dataset isn't changed, and the plan owns what it holds.
@@ -38,13 +38,16 @@ pub fn plan(
     ask: &KeyAsk<'_, '_>,
     given: Given,
 ) -> Result<Plan, AllocError>
-    ensures plan { IfOk result (λ p. IsPlan (command ask.now given.now) given.now held.now (view p.reply) p.effects.items) }
+    ensures plan { IfOk result (λ p.
+        IsPlan (command ask.now given.now) given.now held.now (view p.reply) p.effects.items) }
 
     // The effects lead to what the command leaves, and its own ones are there exactly where it changes something.
-    ensures faithful { IsTrue (list_all fits (key_words ask.now)) → IsFaithful (command ask.now given.now) given.now held.now }
+    ensures faithful { IsTrue (list_all fits (key_words ask.now)) →
+        IsFaithful (command ask.now given.now) given.now held.now }
 
     // .. and their texts are command texts.
-    ensures texts { IsTrue (list_all fits (key_words ask.now)) → HasCommandTexts (command ask.now given.now) given.now held.now }
+    ensures texts { IsTrue (list_all fits (key_words ask.now)) →
+        HasCommandTexts (command ask.now given.now) given.now held.now }
 {
     deadline_can_be_named(ask, given);
     planned(alloc, held, ask, given)
@@ -66,7 +69,8 @@ fn planned(
     ask: &KeyAsk<'_, '_>,
     given: Given,
 ) -> Result<Plan, AllocError>
-    ensures { IfOk result (λ p. IsPlan (command ask.now given.now) given.now held.now (view p.reply) p.effects.items) }
+    ensures { IfOk result (λ p.
+        IsPlan (command ask.now given.now) given.now held.now (view p.reply) p.effects.items) }
 {
     let mut effects = Effects::new(alloc);
     let reply = reply_to(alloc, held, ask, given, &mut effects)?;
@@ -81,7 +85,8 @@ fn reply_to(
     given: Given,
     effects: &mut Effects,
 ) -> Result<Reply, AllocError>
-    ensures { IfOk result (λ r. Plans (command ask.now given.now) given.now held.now (view r) effects.old effects.new) }
+    ensures { IfOk result (λ r.
+        Plans (command ask.now given.now) given.now held.now (view r) effects.old effects.new) }
 {
     match ask {
         KeyAsk::Del { keys } => delete(alloc, held, keys, given, effects),
@@ -143,7 +148,9 @@ fn delete(
     given: Given,
     effects: &mut Effects,
 ) -> Result<Reply, AllocError>
-    ensures { IfOk result (λ r. Plans (on_keys keys.now (deleted keys.now)) given.now held.now (view r) effects.old effects.new) }
+    ensures { IfOk result (λ r.
+        Plans (on_keys keys.now (deleted keys.now)) given.now held.now (view r) effects.old
+        effects.new) }
 {
     if let [only] = keys.as_slice() {
         return delete_one(alloc, held, &Argument::of(only), given, effects);
@@ -161,7 +168,9 @@ fn delete_one(
     given: Given,
     effects: &mut Effects,
 ) -> Result<Reply, AllocError>
-    ensures { IfOk result (λ r. Plans (on_keys (key.now ∷ []) (deleted (key.now ∷ []))) given.now held.now (view r) effects.old effects.new) }
+    ensures { IfOk result (λ r.
+        Plans (on_keys (key.now ∷ []) (deleted (key.now ∷ []))) given.now held.now (view r)
+        effects.old effects.new) }
 {
     let live_entry = look(alloc, held, key, given, effects)?;
     if live_entry.is_none() {
@@ -181,7 +190,9 @@ fn exists(
     given: Given,
     effects: &mut Effects,
 ) -> Result<Reply, AllocError>
-    ensures { IfOk result (λ r. Plans (on_keys keys.now (counted keys.now)) given.now held.now (view r) effects.old effects.new) }
+    ensures { IfOk result (λ r.
+        Plans (on_keys keys.now (counted keys.now)) given.now held.now (view r) effects.old
+        effects.new) }
 {
     if let [only] = keys.as_slice() {
         return exists_one(alloc, held, &Argument::of(only), given, effects);
@@ -199,7 +210,9 @@ fn exists_one(
     given: Given,
     effects: &mut Effects,
 ) -> Result<Reply, AllocError>
-    ensures { IfOk result (λ r. Plans (on_keys (key.now ∷ []) (counted (key.now ∷ []))) given.now held.now (view r) effects.old effects.new) }
+    ensures { IfOk result (λ r.
+        Plans (on_keys (key.now ∷ []) (counted (key.now ∷ []))) given.now held.now (view r)
+        effects.old effects.new) }
 {
     let live_entry = look(alloc, held, key, given, effects)?;
     Ok(count(usize::from(live_entry.is_some())))
@@ -213,7 +226,8 @@ fn key_type(
     given: Given,
     effects: &mut Effects,
 ) -> Result<Reply, AllocError>
-    ensures { IfOk result (λ r. Plans (on_key key.now type_answer) given.now held.now (view r) effects.old effects.new) }
+    ensures { IfOk result (λ r.
+        Plans (on_key key.now type_answer) given.now held.now (view r) effects.old effects.new) }
 {
     let live_entry = look(alloc, held, key, given, effects)?;
     Ok(kinds::key_type(live_entry))
@@ -226,7 +240,8 @@ fn keys(
     pattern: &Argument<'_>,
     given: Given,
 ) -> Result<Reply, AllocError>
-    ensures { IfOk result (λ r. view r ≡ (matching pattern.now (seen given.now held.now)).reply) }
+    ensures { IfOk result (λ r.
+        view r ≡ (matching pattern.now (seen given.now held.now)).reply) }
 {
     listing::list_keys(alloc, held, Some(pattern.as_slice()), None, given)
 }
@@ -240,7 +255,8 @@ fn scan(
     kind: Option<KindName>,
     given: Given,
 ) -> Result<Reply, AllocError>
-    ensures { IfOk result (λ r. view r ≡ (scanned cursor pattern.now kind (seen given.now held.now)).reply) }
+    ensures { IfOk result (λ r.
+        view r ≡ (scanned cursor pattern.now kind (seen given.now held.now)).reply) }
 {
     listing::scan(alloc, held, cursor, bytes_of(pattern), kind, given)
 }
@@ -265,7 +281,8 @@ fn dbsize(held: &Dataset, given: Given) -> Reply
 /// What `FLUSHALL` and `FLUSHDB` are answered. Unless the dataset is empty, their effect is put behind those that are
 /// there.
 fn clear(held: &Dataset, given: Given, effects: &mut Effects) -> Result<Reply, AllocError>
-    ensures { IfOk result (λ r. Plans (on_none cleared) given.now held.now (view r) effects.old effects.new) }
+    ensures { IfOk result (λ r.
+        Plans (on_none cleared) given.now held.now (view r) effects.old effects.new) }
 {
     if !held.is_empty() {
         effects.push(Effect::Clear)?;
@@ -283,7 +300,10 @@ fn expire(
     given: Given,
     effects: &mut Effects,
 ) -> Result<Reply, AllocError>
-    ensures { IfOk result (λ r. Plans (on_key key.now (expire_answer key.now condition given.now (deadline_at given.now expiry))) given.now held.now (view r) effects.old effects.new) }
+    ensures { IfOk result (λ r.
+        Plans (on_key key.now
+        (expire_answer key.now condition given.now (deadline_at given.now expiry))) given.now
+        held.now (view r) effects.old effects.new) }
 {
     let live_entry = look(alloc, held, key, given, effects)?;
     let deadline = expiry.deadline(given.now());
@@ -298,7 +318,9 @@ fn persist(
     given: Given,
     effects: &mut Effects,
 ) -> Result<Reply, AllocError>
-    ensures { IfOk result (λ r. Plans (on_key key.now (persist_answer key.now)) given.now held.now (view r) effects.old effects.new) }
+    ensures { IfOk result (λ r.
+        Plans (on_key key.now (persist_answer key.now)) given.now held.now (view r) effects.old
+        effects.new) }
 {
     let live_entry = look(alloc, held, key, given, effects)?;
     expiring::persist(alloc, key, live_entry, effects)
@@ -313,7 +335,9 @@ fn deadline(
     given: Given,
     effects: &mut Effects,
 ) -> Result<Reply, AllocError>
-    ensures { IfOk result (λ r. Plans (on_key key.now (deadline_answer form given.now)) given.now held.now (view r) effects.old effects.new) }
+    ensures { IfOk result (λ r.
+        Plans (on_key key.now (deadline_answer form given.now)) given.now held.now (view r)
+        effects.old effects.new) }
 {
     let live_entry = look(alloc, held, key, given, effects)?;
     let number = expiring::answered_in(form, given, live_entry);

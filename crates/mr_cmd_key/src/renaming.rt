@@ -4,16 +4,16 @@ ghost use Rattle.std.specs.FinMap.{get};
 ghost use Rattle.std.specs.Str.{bytes_eq};
 ghost use Rattle.mr_resp.specs.ReplyView.{view};
 ghost use Rattle.mr_data.specs.Dataset.{live};
-ghost use Rattle.mr_entries.specs.Dataset.{Dataset as Map};
-ghost use Rattle.mr_room.specs.Keys.{dels, expired};
-ghost use Rattle.mr_room.specs.Commands.{Plans, on_keys};
+ghost use Rattle.mr_keyspace.specs.Dataset.{Dataset as Map};
+ghost use Rattle.mr_cmd_shared.specs.Keys.{dels, expired};
+ghost use Rattle.mr_cmd_shared.specs.Commands.{Plans, on_keys};
 ghost use Rattle.mr_cmd_key.specs.Renaming.{Gives, carried_if, no_key, renamed, renamed_nx};
 
 use mr_arguments::Argument;
 use mr_bytes::Word;
+use mr_cmd_shared::{Effects, count, done, look};
 use mr_data::{Dataset, Effect, Entry, Given};
 use mr_resp::Reply;
-use mr_room::{Effects, count, done, look};
 use std::alloc::{AllocError, Global};
 use std::borrow::CowSlice;
 
@@ -26,7 +26,9 @@ pub fn rename(
     given: Given,
     effects: &mut Effects,
 ) -> Result<Reply, AllocError>
-    ensures { IfOk result (λ r. Plans (on_keys (from.now ∷ to.now ∷ []) (renamed from.now to.now)) given.now held.now (view r) effects.old effects.new) }
+    ensures { IfOk result (λ r.
+        Plans (on_keys (from.now ∷ to.now ∷ []) (renamed from.now to.now)) given.now held.now
+        (view r) effects.old effects.new) }
 {
     let (source, _) = look_at_both(alloc, held, from, to, given, effects)?;
     carry(alloc, from, to, done(), source, effects)
@@ -41,7 +43,9 @@ pub fn renamenx(
     given: Given,
     effects: &mut Effects,
 ) -> Result<Reply, AllocError>
-    ensures { IfOk result (λ r. Plans (on_keys (from.now ∷ to.now ∷ []) (renamed_nx from.now to.now)) given.now held.now (view r) effects.old effects.new) }
+    ensures { IfOk result (λ r.
+        Plans (on_keys (from.now ∷ to.now ∷ []) (renamed_nx from.now to.now)) given.now held.now
+        (view r) effects.old effects.new) }
 {
     let (source, target) = look_at_both(alloc, held, from, to, given, effects)?;
     carry_new(alloc, from, to, source, target, effects)
@@ -56,9 +60,13 @@ fn look_at_both<'d>(
     given: Given,
     effects: &mut Effects,
 ) -> Result<(Option<&'d Entry>, Option<&'d Entry>), AllocError>
-    ensures source { IfOk result (λ r. option_copied r.0 ≡ live given.now (get held.now from.now)) }
-    ensures target { IfOk result (λ r. option_copied r.1 ≡ live given.now (get held.now to.now)) }
-    ensures expired { IfOk result (λ _. effects.new ≡ effects.old ++ dels (expired given.now (from.now ∷ to.now ∷ []) held.now)) }
+    ensures source { IfOk result (λ r.
+        option_copied r.0 ≡ live given.now (get held.now from.now)) }
+    ensures target { IfOk result (λ r.
+        option_copied r.1 ≡ live given.now (get held.now to.now)) }
+    ensures expired { IfOk result (λ _.
+        effects.new ≡
+        effects.old ++ dels (expired given.now (from.now ∷ to.now ∷ []) held.now)) }
 {
     let source = look(alloc, held, from, given, effects)?;
     let target = if same(from, to) {
@@ -78,7 +86,9 @@ fn carry(
     source: Option<&Entry>,
     effects: &mut Effects,
 ) -> Result<Reply, AllocError>
-    ensures { IfOk result (λ r. (m : Map) → Gives (carried_if from.now to.now (view reply) (option_copied source.entry) m) (view r) effects.old effects.new) }
+    ensures { IfOk result (λ r. (m : Map) →
+        Gives (carried_if from.now to.now (view reply) (option_copied source.entry) m) (view r)
+        effects.old effects.new) }
 {
     if source.is_none() {
         return Ok(no_key());
@@ -102,7 +112,9 @@ fn carry_new(
     target: Option<&Entry>,
     effects: &mut Effects,
 ) -> Result<Reply, AllocError>
-    ensures { IfOk result (λ r. (m : Map) → get m from.now ≡ option_copied source.entry → get m to.now ≡ option_copied target.entry → Gives (renamed_nx from.now to.now m) (view r) effects.old effects.new) }
+    ensures { IfOk result (λ r. (m : Map) → get m from.now ≡ option_copied source.entry →
+        get m to.now ≡ option_copied target.entry →
+        Gives (renamed_nx from.now to.now m) (view r) effects.old effects.new) }
 {
     if source.is_some() && target.is_some() {
         return Ok(count(0));

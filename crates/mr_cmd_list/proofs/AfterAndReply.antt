@@ -14,17 +14,17 @@ use Rattle.mr_bytes.specs.declared.ends.End.TheVariants.{Left, Right}
 use Rattle.mr_bytes.proofs.Places.{from_front, past_end, from_end}
 use Rattle.mr_resp.specs.Replies as reply
 use Rattle.mr_resp.specs.Replies.{Tree}
-use Rattle.mr_entries.specs.Collections.{put_item, pushed, popped, end_item}
-use Rattle.mr_entries.specs.Dataset.{put_at}
-use Rattle.mr_entries.specs.Steps.{lists, held, entry_of, deadline_of}
-use Rattle.mr_entries.specs.declared.value.Value.TheVariants as value
-use Rattle.mr_entries.specs.declared.value.Entry.{Entry}
-use Rattle.mr_entries.proofs.Ends.{no_end}
-use Rattle.mr_entries.proofs.Puts.{get_put}
+use Rattle.mr_keyspace.specs.Collections.{put_item, pushed, popped, end_item}
+use Rattle.mr_keyspace.specs.Dataset.{put_at}
+use Rattle.mr_keyspace.specs.Steps.{lists, held, entry_of, deadline_of}
+use Rattle.mr_keyspace.specs.declared.value.Value.TheVariants as value
+use Rattle.mr_keyspace.specs.declared.value.Entry.{Entry}
+use Rattle.mr_keyspace.proofs.Ends.{no_end}
+use Rattle.mr_keyspace.proofs.Puts.{get_put}
 use Rattle.mr_cmd_list.specs.declared.list_ask.PushTo.TheVariants.{AnyKey, ExistingKey}
-use Rattle.mr_room.specs.Collections.{replied, changed}
-use Rattle.mr_room.specs.Outcomes.{at_key}
-use Rattle.mr_room.specs.Answered.{wrong_kind}
+use Rattle.mr_cmd_shared.specs.Collections.{replied, changed}
+use Rattle.mr_cmd_shared.specs.Outcomes.{at_key}
+use Rattle.mr_cmd_shared.specs.Answered.{wrong_kind}
 use Rattle.mr_cmd_list.specs.Laws.{PushAnswersLength, PushIsRead, PopTakesTheEnd, MoveTakesTheEnd, MovePutsAtTheEnd, with_pushed, end_index}
 use Rattle.mr_cmd_list.specs.Lists.{of_list, item_reply, items_reply}
 use Rattle.mr_cmd_list.specs.Moves.{rotate_answer, with_rotated, carry, carry_from, carry_to, carry_item, carried}

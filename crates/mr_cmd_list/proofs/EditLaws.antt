@@ -14,13 +14,13 @@ use Rattle.mr_value.specs.Lists.{count_of, without, without_first, without_last,
 use Rattle.mr_bytes.specs.Window.{named_place, window_of}
 use Rattle.mr_bytes.specs.declared.ends.Side.{Side}
 use Rattle.mr_value.proofs.Removals.{length-without}
-use Rattle.mr_entries.specs.Collections.{is_place_of, is_part_of, place_beside}
-use Rattle.mr_entries.specs.Steps.{lists, held, set_item_step, insert_item_step, remove_items_step, trim_step, del_step}
-use Rattle.mr_entries.specs.Changes.{change}
-use Rattle.mr_entries.specs.declared.value.Entry.{Entry}
+use Rattle.mr_keyspace.specs.Collections.{is_place_of, is_part_of, place_beside}
+use Rattle.mr_keyspace.specs.Steps.{lists, held, set_item_step, insert_item_step, remove_items_step, trim_step, del_step}
+use Rattle.mr_keyspace.specs.Changes.{change}
+use Rattle.mr_keyspace.specs.declared.value.Entry.{Entry}
 use Rattle.mr_effect.specs.declared.effect.Effect.TheVariants as effect
 use Rattle.mr_data.proofs.Running.{IsStep}
-use Rattle.mr_room.proofs.Changing.{IsFaithfulChange}
+use Rattle.mr_cmd_shared.proofs.Changing.{IsFaithfulChange}
 use Rattle.mr_cmd_list.specs.Edits.{is_item, with_item, with_inserted, without_equal, is_whole, trimmed}
 use Rattle.mr_cmd_list.proofs.Sizes.{not_both, both, three, small, positive, none_of, same_bytes, bytes_itself, place_within, window_within}
 use Rattle.mr_cmd_list.proofs.OneEffect.{no_effect, by_step, one_effect, unless_same}

@@ -3,13 +3,13 @@ use Rattle.std.proofs.Common.{◌≡◌, List, ◌++◌, Option, Some, None, ref
 use Rattle.std.specs.Option.{option_map}
 use Rattle.mr_map.specs.Bytes.{Bytes}
 use Rattle.mr_resp.specs.Replies.{Tree}
-use Rattle.mr_entries.specs.Steps.{lists, held}
-use Rattle.mr_entries.specs.declared.value.Value.TheVariants as value
-use Rattle.mr_entries.specs.declared.value.Entry.{Entry}
+use Rattle.mr_keyspace.specs.Steps.{lists, held}
+use Rattle.mr_keyspace.specs.declared.value.Value.TheVariants as value
+use Rattle.mr_keyspace.specs.declared.value.Entry.{Entry}
 use Rattle.mr_effect.specs.declared.effect.Effect.{Effect}
-use Rattle.mr_room.specs.Answered.{Answered, Takes, kept, wrong_kind}
-use Rattle.mr_room.specs.Collections.{Change, replied, telling, changed, changing}
-use Rattle.mr_room.proofs.PlanLemmas.{takes_reply}
+use Rattle.mr_cmd_shared.specs.Answered.{Answered, Takes, kept, wrong_kind}
+use Rattle.mr_cmd_shared.specs.Collections.{Change, replied, telling, changed, changing}
+use Rattle.mr_cmd_shared.proofs.PlanLemmas.{takes_reply}
 use Rattle.mr_cmd_list.specs.declared.list_ask.ListAsk.{ListAsk}
 use Rattle.mr_cmd_list.specs.declared.list_ask.ListAsk.TheVariants as ask
 use Rattle.mr_cmd_list.specs.declared.list_ask.PushTo.TheVariants.{AnyKey, ExistingKey}

@@ -9,25 +9,25 @@ use Rattle.mr_map.specs.Bytes.{Bytes}
 use Rattle.mr_bytes.specs.Words.{fits}
 use Rattle.mr_bytes.specs.declared.ends.End.{End}
 use Rattle.mr_bytes.specs.declared.ends.End.TheVariants.{Left, Right}
-use Rattle.mr_entries.specs.Dataset.{Dataset}
+use Rattle.mr_keyspace.specs.Dataset.{Dataset}
 use Rattle.mr_data.specs.Dataset.{IsDataset, is_expired, live}
-use Rattle.mr_entries.specs.Steps.{lists, held, list_of}
-use Rattle.mr_entries.specs.declared.value.Value.{Value}
-use Rattle.mr_entries.specs.declared.value.Value.TheVariants as value
-use Rattle.mr_entries.specs.declared.value.Entry.{Entry}
+use Rattle.mr_keyspace.specs.Steps.{lists, held, list_of}
+use Rattle.mr_keyspace.specs.declared.value.Value.{Value}
+use Rattle.mr_keyspace.specs.declared.value.Value.TheVariants as value
+use Rattle.mr_keyspace.specs.declared.value.Entry.{Entry}
 use Rattle.mr_cmd_list.specs.Carried.{list_words}
 use Rattle.mr_cmd_list.specs.declared.list_ask.ListAsk.{ListAsk}
 use Rattle.mr_cmd_list.specs.declared.list_ask.ListAsk.TheVariants as ask
 use Rattle.mr_cmd_list.specs.declared.list_ask.PushTo.{PushTo}
 use Rattle.mr_cmd_list.specs.declared.list_ask.PushTo.TheVariants.{AnyKey, ExistingKey}
-use Rattle.mr_room.specs.Taken.{has}
-use Rattle.mr_room.specs.Keys.{purged}
-use Rattle.mr_room.specs.Answered.{Answered}
-use Rattle.mr_room.specs.Outcomes.{at_key}
-use Rattle.mr_room.specs.Commands.{on_key}
-use Rattle.mr_room.proofs.KeyLists.{get_purged}
-use Rattle.mr_room.proofs.PlanLemmas.{purged_at}
-use Rattle.mr_room.proofs.Laws.{faithful, IsFaithfulAt, IsFaithfulAnswer, at_key_faithful, IsLawful}
+use Rattle.mr_cmd_shared.specs.Taken.{has}
+use Rattle.mr_cmd_shared.specs.Keys.{purged}
+use Rattle.mr_cmd_shared.specs.Answered.{Answered}
+use Rattle.mr_cmd_shared.specs.Outcomes.{at_key}
+use Rattle.mr_cmd_shared.specs.Commands.{on_key}
+use Rattle.mr_cmd_shared.proofs.KeyLists.{get_purged}
+use Rattle.mr_cmd_shared.proofs.PlanLemmas.{purged_at}
+use Rattle.mr_cmd_shared.proofs.Laws.{faithful, IsFaithfulAt, IsFaithfulAnswer, at_key_faithful, IsLawful}
 use Rattle.mr_data.proofs.KindLaws.{lists_kept}
 use Rattle.mr_cmd_list.specs.Numbers.{HasFewItems, IsShort, IsShortFor, IsNumberFor, HasNumbersIn}
 use Rattle.mr_cmd_list.specs.Pushes.{push_change, push_answer}

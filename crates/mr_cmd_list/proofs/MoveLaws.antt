@@ -10,21 +10,21 @@ use Rattle.mr_value.specs.Lists.{are_equal}
 use Rattle.mr_bytes.specs.declared.ends.End.{End}
 use Rattle.mr_bytes.specs.declared.ends.End.TheVariants.{Left, Right}
 use Rattle.mr_value.proofs.Uniform.{turns_left, turns_right}
-use Rattle.mr_entries.specs.Dataset.{Dataset, put_at}
-use Rattle.mr_entries.specs.Collections.{end_item, popped, put_item, turned, may_take}
-use Rattle.mr_entries.specs.Steps.{lists, held, entry_of, deadline_of, turn_step, pop_step, push_step}
-use Rattle.mr_entries.specs.Changes.{change, at_key, item_at, move_item, carry_item as carry_in}
+use Rattle.mr_keyspace.specs.Dataset.{Dataset, put_at}
+use Rattle.mr_keyspace.specs.Collections.{end_item, popped, put_item, turned, may_take}
+use Rattle.mr_keyspace.specs.Steps.{lists, held, entry_of, deadline_of, turn_step, pop_step, push_step}
+use Rattle.mr_keyspace.specs.Changes.{change, at_key, item_at, move_item, carry_item as carry_in}
 use Rattle.mr_data.specs.Meaning.{apply, apply_all}
-use Rattle.mr_entries.specs.declared.value.Entry.{Entry}
-use Rattle.mr_entries.proofs.Ends.{turned_same, turned_right_left}
+use Rattle.mr_keyspace.specs.declared.value.Entry.{Entry}
+use Rattle.mr_keyspace.proofs.Ends.{turned_same, turned_right_left}
 use Rattle.mr_effect.specs.declared.effect.Effect.{Effect}
 use Rattle.mr_effect.specs.declared.effect.Effect.TheVariants as effect
-use Rattle.mr_room.specs.Taken.{is_key}
-use Rattle.mr_entries.proofs.Puts.{is_key_symm, get_put, get_put_other, put_same}
-use Rattle.mr_room.proofs.Laws.{IsFaithfulAt, none_short, one_short}
+use Rattle.mr_cmd_shared.specs.Taken.{is_key}
+use Rattle.mr_keyspace.proofs.Puts.{is_key_symm, get_put, get_put_other, put_same}
+use Rattle.mr_cmd_shared.proofs.Laws.{IsFaithfulAt, none_short, one_short}
 use Rattle.mr_data.proofs.Running.{IsStep, same_collection}
 use Rattle.mr_data.proofs.KindLaws.{lists_are}
-use Rattle.mr_room.proofs.Changing.{IsFaithfulChange}
+use Rattle.mr_cmd_shared.proofs.Changing.{IsFaithfulChange}
 use Rattle.mr_cmd_list.specs.Moves.{is_same_end, with_rotated, Carry, carry, carry_from, carry_to, carry_item, carried}
 use Rattle.mr_cmd_list.proofs.Sizes.{not_both, both, bytes_itself, end_some, may_take_some, popped_less}
 use Rattle.mr_cmd_list.proofs.MoveLemmas.{apart_key}

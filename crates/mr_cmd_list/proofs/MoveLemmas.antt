@@ -7,19 +7,19 @@ use Rattle.std.proofs.lemmas.List.{map-append}
 use Rattle.mr_map.specs.Bytes.{Bytes}
 use Rattle.mr_resp.specs.Replies.{Tree}
 use Rattle.mr_bytes.specs.declared.ends.End.{End}
-use Rattle.mr_entries.specs.Dataset.{Dataset}
+use Rattle.mr_keyspace.specs.Dataset.{Dataset}
 use Rattle.mr_data.specs.Dataset.{live, seen}
 use Rattle.mr_data.proofs.Seeing.{get-seen}
-use Rattle.mr_entries.specs.declared.value.Entry.{Entry}
+use Rattle.mr_keyspace.specs.declared.value.Entry.{Entry}
 use Rattle.mr_effect.specs.declared.effect.Effect.{Effect}
 use Rattle.mr_effect.specs.declared.effect.Effect.TheVariants as effect
-use Rattle.mr_room.specs.Taken.{is_key}
-use Rattle.mr_room.specs.Keys.{chosen, dels, expired, purged, without, is_stored}
-use Rattle.mr_room.specs.Outcomes.{Outcome, at_key}
-use Rattle.mr_room.specs.Commands.{on_key, IsPlan}
-use Rattle.mr_entries.proofs.Maps.{same_key}
-use Rattle.mr_entries.proofs.Puts.{is_key_itself, get_remove, removed}
-use Rattle.mr_room.proofs.KeyLists.{get_purged}
+use Rattle.mr_cmd_shared.specs.Taken.{is_key}
+use Rattle.mr_cmd_shared.specs.Keys.{chosen, dels, expired, purged, without, is_stored}
+use Rattle.mr_cmd_shared.specs.Outcomes.{Outcome, at_key}
+use Rattle.mr_cmd_shared.specs.Commands.{on_key, IsPlan}
+use Rattle.mr_keyspace.proofs.Maps.{same_key}
+use Rattle.mr_keyspace.proofs.Puts.{is_key_itself, get_remove, removed}
+use Rattle.mr_cmd_shared.proofs.KeyLists.{get_purged}
 use Rattle.mr_cmd_list.proofs.Sizes.{same_bytes, bytes_itself}
 use Rattle.mr_cmd_list.specs.Moves.{rotate_answer, carry, carried, moved, moving}
 

@@ -1,6 +1,6 @@
 -- The numbers in effects.
 use Rattle.std.proofs.Common.{ℕ, ◌≡◌, Option, Some, None, sym, subst}
-use Rattle.mr_entries.specs.declared.value.Entry.{Entry}
+use Rattle.mr_keyspace.specs.declared.value.Entry.{Entry}
 use Rattle.mr_cmd_list.specs.declared.list_ask.ListAsk.{ListAsk}
 use Rattle.mr_cmd_list.specs.declared.list_ask.ListAsk.TheVariants as ask
 use Rattle.mr_cmd_list.specs.Numbers.{IsShort, IsShortFor, HasNumber, HasNumbers}

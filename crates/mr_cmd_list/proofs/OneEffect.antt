@@ -5,16 +5,16 @@ use Rattle.std.specs.Option.{option_map, option_and_then}
 use Rattle.std.specs.FinMap.{get}
 use Rattle.mr_map.specs.Bytes.{Bytes}
 use Rattle.mr_resp.specs.Replies.{Tree}
-use Rattle.mr_entries.specs.Dataset.{Dataset}
+use Rattle.mr_keyspace.specs.Dataset.{Dataset}
 use Rattle.mr_data.specs.Dataset.{IsDataset}
-use Rattle.mr_entries.specs.Steps.{Step, lists, held, entry_of, deadline_of, on}
-use Rattle.mr_entries.specs.declared.value.Entry.{Entry}
+use Rattle.mr_keyspace.specs.Steps.{Step, lists, held, entry_of, deadline_of, on}
+use Rattle.mr_keyspace.specs.declared.value.Entry.{Entry}
 use Rattle.mr_effect.specs.declared.effect.Effect.{Effect}
-use Rattle.mr_room.specs.Collections.{Change, telling, changing}
-use Rattle.mr_room.proofs.Laws.{IsFaithfulAnswer, kept_faithful}
+use Rattle.mr_cmd_shared.specs.Collections.{Change, telling, changing}
+use Rattle.mr_cmd_shared.proofs.Laws.{IsFaithfulAnswer, kept_faithful}
 use Rattle.mr_data.proofs.Running.{AreSteps, IsStep, run}
 use Rattle.mr_data.proofs.KindLaws.{lists_are, lists_kept}
-use Rattle.mr_room.proofs.Changing.{IsFaithfulChange, changing_faithful, telling_faithful}
+use Rattle.mr_cmd_shared.proofs.Changing.{IsFaithfulChange, changing_faithful, telling_faithful}
 use Rattle.mr_cmd_list.specs.Lists.{of_list, on_list, unless}
 
 -- ---- a list, or an absent key

@@ -5,13 +5,13 @@ use Rattle.mr_map.specs.Bytes.{Bytes}
 use Rattle.mr_bytes.specs.Words.{fits}
 use Rattle.mr_bytes.specs.Number.{is_i64}
 use Rattle.mr_bytes.specs.declared.ends.End.{End}
-use Rattle.mr_entries.specs.Collections.{may_take, popped, end_item}
-use Rattle.mr_entries.specs.Steps.{lists, held, pop_step}
-use Rattle.mr_entries.specs.Changes.{change}
-use Rattle.mr_entries.specs.declared.value.Entry.{Entry}
+use Rattle.mr_keyspace.specs.Collections.{may_take, popped, end_item}
+use Rattle.mr_keyspace.specs.Steps.{lists, held, pop_step}
+use Rattle.mr_keyspace.specs.Changes.{change}
+use Rattle.mr_keyspace.specs.declared.value.Entry.{Entry}
 use Rattle.mr_effect.specs.declared.effect.Effect.TheVariants as effect
 use Rattle.mr_data.proofs.Running.{IsStep}
-use Rattle.mr_room.proofs.Changing.{IsFaithfulChange}
+use Rattle.mr_cmd_shared.proofs.Changing.{IsFaithfulChange}
 use Rattle.mr_cmd_list.specs.Pops.{without_item, without_items}
 use Rattle.mr_cmd_list.proofs.Sizes.{both, small, positive, none_of, end_some, may_take_some, popped_none, popped_less}
 use Rattle.mr_cmd_list.proofs.OneEffect.{no_effect, one_effect, unless_same}

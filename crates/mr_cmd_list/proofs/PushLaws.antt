@@ -6,16 +6,16 @@ use Rattle.mr_map.specs.Bytes.{Bytes}
 use Rattle.mr_bytes.specs.Words.{fits}
 use Rattle.mr_bytes.specs.declared.ends.End.{End}
 use Rattle.mr_bytes.specs.declared.ends.End.TheVariants.{Left, Right}
-use Rattle.mr_entries.specs.Collections.{put_item, pushed}
-use Rattle.mr_entries.specs.Steps.{lists, held, entry_of, deadline_of, push_step}
-use Rattle.mr_entries.specs.declared.value.Entry.{Entry}
+use Rattle.mr_keyspace.specs.Collections.{put_item, pushed}
+use Rattle.mr_keyspace.specs.Steps.{lists, held, entry_of, deadline_of, push_step}
+use Rattle.mr_keyspace.specs.declared.value.Entry.{Entry}
 use Rattle.mr_effect.specs.declared.effect.Effect.TheVariants as effect
-use Rattle.mr_entries.specs.Cuts.{cut}
-use Rattle.mr_entries.proofs.Cutting.{cut_groups, cut_whole, no_cut}
+use Rattle.mr_keyspace.specs.Cuts.{cut}
+use Rattle.mr_keyspace.proofs.Cutting.{cut_groups, cut_whole, no_cut}
 use Rattle.mr_data.proofs.Folds.{pushing, push_is_step}
 use Rattle.mr_data.proofs.Running.{steps_of, groups_run}
 use Rattle.mr_data.proofs.KindLaws.{lists_are}
-use Rattle.mr_room.proofs.Changing.{IsFaithfulChange}
+use Rattle.mr_cmd_shared.proofs.Changing.{IsFaithfulChange}
 use Rattle.mr_cmd_list.specs.Pushes.{push_effects, push_change}
 
 -- ---- one after another

@@ -8,8 +8,8 @@ use Rattle.mr_map.specs.Bytes.{Bytes}
 use Rattle.mr_effect.specs.declared.effect.Effect.{Effect}
 use Rattle.mr_effect.specs.declared.effect.Effect.TheVariants as effect
 use Rattle.mr_bytes.specs.declared.ends.End.{End}
-use Rattle.mr_entries.specs.Cuts.{most_items, cut}
-use Rattle.mr_entries.proofs.Cutting.{cut_more}
+use Rattle.mr_keyspace.specs.Cuts.{most_items, cut}
+use Rattle.mr_keyspace.proofs.Cutting.{cut_more}
 use Rattle.mr_cmd_list.specs.Pushes.{push_effects}
 
 -- the first group, and those of the rest

@@ -14,7 +14,7 @@ use Rattle.mr_bytes.specs.Window.{place_of, named_place, window_of}
 use Rattle.mr_bytes.specs.declared.ends.End.{End}
 use Rattle.mr_bytes.specs.declared.ends.End.TheVariants.{Left, Right}
 use Rattle.mr_bytes.proofs.Windows.{in_order}
-use Rattle.mr_entries.specs.Collections.{may_take, popped, end_item}
+use Rattle.mr_keyspace.specs.Collections.{may_take, popped, end_item}
 
 pub both : (a b : Bool) → a ≡ true → b ≡ true → a && b ≡ true
 both a b p q = rw (p, q) refl

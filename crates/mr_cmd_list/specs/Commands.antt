@@ -1,11 +1,11 @@
 -- What each command on lists does.
 use Rattle.std.specs.Prelude.{Option}
 use Rattle.mr_bytes.specs.declared.ends.End.TheVariants.{Left, Right}
-use Rattle.mr_entries.specs.declared.value.Entry.{Entry}
+use Rattle.mr_keyspace.specs.declared.value.Entry.{Entry}
 use Rattle.mr_cmd_list.specs.declared.list_ask.ListAsk.{ListAsk}
 use Rattle.mr_cmd_list.specs.declared.list_ask.ListAsk.TheVariants as ask
-use Rattle.mr_room.specs.Answered.{Answered}
-use Rattle.mr_room.specs.Commands.{Command, on_key}
+use Rattle.mr_cmd_shared.specs.Answered.{Answered}
+use Rattle.mr_cmd_shared.specs.Commands.{Command, on_key}
 use Rattle.mr_cmd_list.specs.Telling.{llen_answer, lrange_answer, lindex_answer}
 use Rattle.mr_cmd_list.specs.Pushes.{push_answer}
 use Rattle.mr_cmd_list.specs.Pops.{pop_answer}

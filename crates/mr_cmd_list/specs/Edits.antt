@@ -6,11 +6,11 @@ use Rattle.mr_resp.specs.Replies as reply
 use Rattle.mr_value.specs.Lists.{without, removed_count, count_of}
 use Rattle.mr_bytes.specs.Window.{named_place, window_of}
 use Rattle.mr_bytes.specs.declared.ends.Side.{Side}
-use Rattle.mr_entries.specs.Collections.{place_beside}
-use Rattle.mr_entries.specs.declared.value.Entry.{Entry}
+use Rattle.mr_keyspace.specs.Collections.{place_beside}
+use Rattle.mr_keyspace.specs.declared.value.Entry.{Entry}
 use Rattle.mr_effect.specs.declared.effect.Effect.TheVariants as effect
-use Rattle.mr_room.specs.Answered.{Answered, done}
-use Rattle.mr_room.specs.Collections.{Change}
+use Rattle.mr_cmd_shared.specs.Answered.{Answered, done}
+use Rattle.mr_cmd_shared.specs.Collections.{Change}
 use Rattle.mr_cmd_list.specs.Lists.{on_list, unchanged, unless, no_such_key, out_of_range}
 
 -- ---- LSET key index item: OK, or why not

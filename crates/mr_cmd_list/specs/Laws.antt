@@ -6,12 +6,12 @@ use Rattle.mr_bytes.specs.Window.{window_of, windowed}
 use Rattle.mr_bytes.specs.declared.ends.End.{End}
 use Rattle.mr_bytes.specs.declared.ends.End.TheVariants.{Left, Right}
 use Rattle.mr_resp.specs.Replies as reply
-use Rattle.mr_entries.specs.Dataset.{Dataset}
-use Rattle.mr_entries.specs.Steps.{lists, held}
-use Rattle.mr_entries.specs.declared.value.Entry.{Entry}
+use Rattle.mr_keyspace.specs.Dataset.{Dataset}
+use Rattle.mr_keyspace.specs.Steps.{lists, held}
+use Rattle.mr_keyspace.specs.declared.value.Entry.{Entry}
 use Rattle.mr_cmd_list.specs.declared.list_ask.PushTo.{PushTo}
 use Rattle.mr_cmd_list.specs.declared.list_ask.PushTo.TheVariants.{AnyKey}
-use Rattle.mr_room.specs.Answered.{wrong_kind}
+use Rattle.mr_cmd_shared.specs.Answered.{wrong_kind}
 use Rattle.mr_cmd_list.specs.Lists.{items_reply}
 use Rattle.mr_cmd_list.specs.Telling.{llen_answer, lrange_answer, lindex_answer}
 use Rattle.mr_cmd_list.specs.Pushes.{push_answer}

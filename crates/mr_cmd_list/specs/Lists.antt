@@ -5,12 +5,12 @@ use Rattle.mr_map.specs.Bytes.{Bytes}
 use Rattle.mr_resp.specs.Replies as reply
 use Rattle.mr_resp.specs.Replies.{Tree}
 use Rattle.mr_resp.specs.ReplyView.{trees_of}
-use Rattle.mr_entries.specs.Steps.{lists}
-use Rattle.mr_entries.specs.declared.value.Value.TheVariants as value
-use Rattle.mr_entries.specs.declared.value.Entry.{Entry}
+use Rattle.mr_keyspace.specs.Steps.{lists}
+use Rattle.mr_keyspace.specs.declared.value.Value.TheVariants as value
+use Rattle.mr_keyspace.specs.declared.value.Entry.{Entry}
 use Rattle.mr_effect.specs.declared.effect.Effect.{Effect}
-use Rattle.mr_room.specs.Answered.{Answered, kept}
-use Rattle.mr_room.specs.Collections.{Change, telling, changing}
+use Rattle.mr_cmd_shared.specs.Answered.{Answered, kept}
+use Rattle.mr_cmd_shared.specs.Collections.{Change, telling, changing}
 
 -- a command that only tells of the list
 abbrev pub of_list : Tree → (List Bytes → Tree) → Option Entry → Answered

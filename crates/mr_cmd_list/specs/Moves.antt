@@ -8,16 +8,16 @@ use Rattle.mr_resp.specs.Replies.{Tree}
 use Rattle.mr_value.specs.Lists.{are_equal}
 use Rattle.mr_bytes.specs.declared.ends.End.{End}
 use Rattle.mr_bytes.specs.declared.ends.End.TheVariants.{Left, Right}
-use Rattle.mr_entries.specs.Dataset.{Dataset, put_at}
-use Rattle.mr_entries.specs.Collections.{end_item, popped, put_item}
-use Rattle.mr_entries.specs.Steps.{lists, held, entry_of, deadline_of}
-use Rattle.mr_entries.specs.declared.value.Entry.{Entry}
+use Rattle.mr_keyspace.specs.Dataset.{Dataset, put_at}
+use Rattle.mr_keyspace.specs.Collections.{end_item, popped, put_item}
+use Rattle.mr_keyspace.specs.Steps.{lists, held, entry_of, deadline_of}
+use Rattle.mr_keyspace.specs.declared.value.Entry.{Entry}
 use Rattle.mr_effect.specs.declared.effect.Effect.{Effect}
 use Rattle.mr_effect.specs.declared.effect.Effect.TheVariants as effect
-use Rattle.mr_room.specs.Answered.{Answered, wrong_kind}
-use Rattle.mr_room.specs.Outcomes.{Outcome, at_key}
-use Rattle.mr_room.specs.Commands.{Command}
-use Rattle.mr_room.specs.Collections.{Change}
+use Rattle.mr_cmd_shared.specs.Answered.{Answered, wrong_kind}
+use Rattle.mr_cmd_shared.specs.Outcomes.{Outcome, at_key}
+use Rattle.mr_cmd_shared.specs.Commands.{Command}
+use Rattle.mr_cmd_shared.specs.Collections.{Change}
 use Rattle.mr_cmd_list.specs.Lists.{on_list, unchanged, unless}
 
 -- ---- onto itself: the item, nil where the key is absent

@@ -4,11 +4,11 @@ use Rattle.mr_map.specs.Bytes.{Bytes}
 use Rattle.mr_resp.specs.Replies as reply
 use Rattle.mr_bytes.specs.declared.ends.End.{End}
 use Rattle.mr_bytes.specs.declared.ends.End.TheVariants.{Left, Right}
-use Rattle.mr_entries.specs.Collections.{end_item, popped}
-use Rattle.mr_entries.specs.declared.value.Entry.{Entry}
+use Rattle.mr_keyspace.specs.Collections.{end_item, popped}
+use Rattle.mr_keyspace.specs.declared.value.Entry.{Entry}
 use Rattle.mr_effect.specs.declared.effect.Effect.TheVariants as effect
-use Rattle.mr_room.specs.Answered.{Answered}
-use Rattle.mr_room.specs.Collections.{Change}
+use Rattle.mr_cmd_shared.specs.Answered.{Answered}
+use Rattle.mr_cmd_shared.specs.Collections.{Change}
 use Rattle.mr_cmd_list.specs.Lists.{on_list, unchanged, unless, items_reply}
 
 abbrev pub without_item : Bytes → End → Option Bytes → List Bytes → Change (List Bytes)

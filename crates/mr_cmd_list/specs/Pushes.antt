@@ -3,16 +3,16 @@ use Rattle.std.specs.Prelude.{pos, ◌+◌, List, map, length, Option}
 use Rattle.mr_map.specs.Bytes.{Bytes}
 use Rattle.mr_resp.specs.Replies as reply
 use Rattle.mr_bytes.specs.declared.ends.End.{End}
-use Rattle.mr_entries.specs.Collections.{pushed}
-use Rattle.mr_entries.specs.Steps.{lists}
-use Rattle.mr_entries.specs.declared.value.Entry.{Entry}
+use Rattle.mr_keyspace.specs.Collections.{pushed}
+use Rattle.mr_keyspace.specs.Steps.{lists}
+use Rattle.mr_keyspace.specs.declared.value.Entry.{Entry}
 use Rattle.mr_effect.specs.declared.effect.Effect.{Effect}
 use Rattle.mr_effect.specs.declared.effect.Effect.TheVariants as effect
 use Rattle.mr_cmd_list.specs.declared.list_ask.PushTo.{PushTo}
 use Rattle.mr_cmd_list.specs.declared.list_ask.PushTo.TheVariants.{AnyKey, ExistingKey}
-use Rattle.mr_room.specs.Answered.{Answered}
-use Rattle.mr_entries.specs.Cuts.{cut}
-use Rattle.mr_room.specs.Collections.{Change, changing}
+use Rattle.mr_cmd_shared.specs.Answered.{Answered}
+use Rattle.mr_keyspace.specs.Cuts.{cut}
+use Rattle.mr_cmd_shared.specs.Collections.{Change, changing}
 use Rattle.mr_cmd_list.specs.Lists.{on_list}
 
 -- one effect for each group of items

@@ -5,8 +5,8 @@ use Rattle.mr_map.specs.Bytes.{Bytes}
 use Rattle.mr_resp.specs.Replies as reply
 use Rattle.mr_resp.specs.Replies.{Tree}
 use Rattle.mr_bytes.specs.Window.{named_place, window_of, windowed}
-use Rattle.mr_entries.specs.declared.value.Entry.{Entry}
-use Rattle.mr_room.specs.Answered.{Answered}
+use Rattle.mr_keyspace.specs.declared.value.Entry.{Entry}
+use Rattle.mr_cmd_shared.specs.Answered.{Answered}
 use Rattle.mr_cmd_list.specs.Lists.{of_list, item_reply, items_reply}
 
 -- LLEN key: how many items there are, 0 where the key is absent

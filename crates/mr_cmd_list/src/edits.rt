@@ -2,16 +2,16 @@
 ghost use Rattle.std.specs.Prelude.{◌≡◌, ◌<◌, ◌^◌, IfOk, option_copied};
 ghost use Rattle.mr_resp.specs.ReplyView.{view};
 ghost use Rattle.mr_value.specs.Lists.{removed_count, count_of};
-ghost use Rattle.mr_room.specs.Answered.{Takes};
+ghost use Rattle.mr_cmd_shared.specs.Answered.{Takes};
 ghost use Rattle.mr_cmd_list.specs.Lists.{entry_with};
 ghost use Rattle.mr_cmd_list.specs.Edits.{lset_answer, linsert_answer, lrem_answer, ltrim_answer, is_item};
 
 use crate::replies::{no_such_key, out_of_range};
 use mr_arguments::Argument;
 use mr_bytes::{Side, Word, place, window};
+use mr_cmd_shared::{Effects, done, integer};
 use mr_data::Effect;
 use mr_resp::Reply;
-use mr_room::{Effects, done, integer};
 use mr_value::ListValue;
 use std::alloc::{AllocError, Global};
 
@@ -24,7 +24,9 @@ pub fn lset(
     list: Option<&ListValue>,
     effects: &mut Effects,
 ) -> Result<Reply, AllocError>
-    ensures { IfOk result (λ r. Takes (lset_answer key.now index item.now (entry_with (option_copied list.entry))) (view r) effects.old effects.new) }
+    ensures { IfOk result (λ r.
+        Takes (lset_answer key.now index item.now (entry_with (option_copied list.entry))) (view r)
+        effects.old effects.new) }
 {
     let Some(list) = list else {
         return Ok(no_such_key());
@@ -62,7 +64,9 @@ pub fn linsert(
     list: Option<&ListValue>,
     effects: &mut Effects,
 ) -> Result<Reply, AllocError>
-    ensures { IfOk result (λ r. Takes (linsert_answer key.now side pivot.now item.now (entry_with (option_copied list.entry))) (view r) effects.old effects.new) }
+    ensures { IfOk result (λ r.
+        Takes (linsert_answer key.now side pivot.now item.now
+        (entry_with (option_copied list.entry))) (view r) effects.old effects.new) }
 {
     let Some(list) = list else {
         return Ok(integer(0));
@@ -88,7 +92,9 @@ pub fn lrem(
     list: Option<&ListValue>,
     effects: &mut Effects,
 ) -> Result<Reply, AllocError>
-    ensures { IfOk result (λ r. Takes (lrem_answer key.now count item.now (entry_with (option_copied list.entry))) (view r) effects.old effects.new) }
+    ensures { IfOk result (λ r.
+        Takes (lrem_answer key.now count item.now (entry_with (option_copied list.entry))) (view r)
+        effects.old effects.new) }
 {
     let Some(list) = list else {
         return Ok(integer(0));
@@ -124,7 +130,9 @@ pub fn ltrim(
     list: Option<&ListValue>,
     effects: &mut Effects,
 ) -> Result<Reply, AllocError>
-    ensures { IfOk result (λ r. Takes (ltrim_answer key.now first last (entry_with (option_copied list.entry))) (view r) effects.old effects.new) }
+    ensures { IfOk result (λ r.
+        Takes (ltrim_answer key.now first last (entry_with (option_copied list.entry))) (view r)
+        effects.old effects.new) }
 {
     let Some(list) = list else {
         return Ok(done());

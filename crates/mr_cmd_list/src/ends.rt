@@ -1,6 +1,6 @@
 // The ends of a list.
 ghost use Rattle.std.specs.Prelude.{◌≡◌, option_copied};
-ghost use Rattle.mr_entries.specs.Collections.{end_item};
+ghost use Rattle.mr_keyspace.specs.Collections.{end_item};
 ghost use Rattle.mr_cmd_list.specs.Moves.{is_same_end};
 
 use mr_bytes::End;

@@ -1,6 +1,6 @@
 // The list that a command finds.
 ghost use Rattle.std.specs.Prelude.{◌≡◌, None, Some, IfOk, OnErr, option_copied};
-ghost use Rattle.mr_entries.specs.Steps.{lists, held};
+ghost use Rattle.mr_keyspace.specs.Steps.{lists, held};
 ghost use Rattle.mr_cmd_list.specs.Lists.{found};
 ghost use Rattle.mr_cmd_list.specs.Numbers.{IsShort};
 
@@ -17,7 +17,8 @@ pub struct OtherKind;
 ///
 /// The key holds another kind of value.
 pub fn list_at(live_entry: Option<&Entry>) -> Result<Option<&ListValue>, OtherKind>
-    ensures list { IfOk result (λ list. found (option_copied live_entry.entry) ≡ Some (option_copied list)) }
+    ensures list { IfOk result (λ list.
+        found (option_copied live_entry.entry) ≡ Some (option_copied list)) }
     ensures other { OnErr result (held lists (option_copied live_entry.entry) ≡ None) }
     ensures short { IsShort (option_copied live_entry.entry) }
 {

@@ -3,9 +3,9 @@ ghost use Rattle.std.specs.Prelude.{◌≡◌, ◌++◌, is_some, IfOk, option_c
 ghost use Rattle.std.specs.Str.{bytes_eq};
 ghost use Rattle.mr_resp.specs.ReplyView.{view};
 ghost use Rattle.mr_data.specs.Dataset.{IsDataset};
-ghost use Rattle.mr_entries.specs.Steps.{lists, held};
-ghost use Rattle.mr_room.specs.Answered.{Takes};
-ghost use Rattle.mr_room.specs.Commands.{IsPlan};
+ghost use Rattle.mr_keyspace.specs.Steps.{lists, held};
+ghost use Rattle.mr_cmd_shared.specs.Answered.{Takes};
+ghost use Rattle.mr_cmd_shared.specs.Commands.{IsPlan};
 ghost use Rattle.mr_cmd_list.specs.Lists.{entry_with};
 ghost use Rattle.mr_cmd_list.specs.Moves.{rotate_answer, carry, moving};
 
@@ -13,9 +13,9 @@ use crate::ends::{end_item, is_same_end};
 use crate::finding::list_at;
 use mr_arguments::Argument;
 use mr_bytes::{End, Word};
+use mr_cmd_shared::{Effects, bulk, look, wrong_kind};
 use mr_data::{Dataset, Effect, Entry, Given, Plan, Value};
 use mr_resp::Reply;
-use mr_room::{Effects, bulk, look, wrong_kind};
 use mr_value::ListValue;
 use std::alloc::{AllocError, Global};
 
@@ -29,7 +29,9 @@ pub fn move_item(
     put: End,
     given: Given,
 ) -> Result<Plan, AllocError>
-    ensures plan { IfOk result (λ p. IsPlan (moving from.now to.now taken put) given.now held.now (view p.reply) p.effects.items) }
+    ensures plan { IfOk result (λ p.
+        IsPlan (moving from.now to.now taken put) given.now held.now (view p.reply)
+        p.effects.items) }
     ensures kept { IsDataset held.now }
 {
     let mut effects = Effects::new(alloc);
@@ -62,7 +64,9 @@ pub fn rotate(
     list: Option<&ListValue>,
     effects: &mut Effects,
 ) -> Result<Reply, AllocError>
-    ensures { IfOk result (λ r. Takes (rotate_answer key.now taken put (entry_with (option_copied list.entry))) (view r) effects.old effects.new) }
+    ensures { IfOk result (λ r.
+        Takes (rotate_answer key.now taken put (entry_with (option_copied list.entry))) (view r)
+        effects.old effects.new) }
 {
     let Some(list) = list else {
         return Ok(Reply::NullBulk);
@@ -94,8 +98,14 @@ fn carry(
     target: Option<&Entry>,
     effects: &mut Effects,
 ) -> Result<Reply, AllocError>
-    ensures reply { IfOk result (λ r. view r ≡ (carry from.now to.now taken put (option_copied source.entry) (option_copied target.entry)).reply) }
-    ensures effects { IfOk result (λ _. effects.new ≡ effects.old ++ (carry from.now to.now taken put (option_copied source.entry) (option_copied target.entry)).effects) }
+    ensures reply { IfOk result (λ r.
+        view r ≡ (carry from.now to.now taken put (option_copied source.entry)
+        (option_copied target.entry)).reply) }
+    ensures effects { IfOk result (λ _.
+        effects.new ≡
+        effects.old ++
+        (carry from.now to.now taken put (option_copied source.entry)
+        (option_copied target.entry)).effects) }
 {
     let Some(entry) = source else {
         return Ok(Reply::NullBulk);

@@ -6,8 +6,8 @@ ghost use Rattle.mr_bytes.specs.Words.{fits};
 ghost use Rattle.mr_resp.specs.ReplyView.{view};
 ghost use Rattle.mr_data.specs.Dataset.{IsDataset, live};
 ghost use Rattle.mr_cmd_list.specs.Carried.{list_words};
-ghost use Rattle.mr_room.specs.Answered.{Takes};
-ghost use Rattle.mr_room.specs.Commands.{on_key, IsPlan, IsFaithful, HasCommandTexts};
+ghost use Rattle.mr_cmd_shared.specs.Answered.{Takes};
+ghost use Rattle.mr_cmd_shared.specs.Commands.{on_key, IsPlan, IsFaithful, HasCommandTexts};
 ghost use Rattle.mr_cmd_list.specs.Lists.{entry_with};
 ghost use Rattle.mr_cmd_list.specs.Numbers.{HasNumber, HasNumbers, HasNumbersIn};
 ghost use Rattle.mr_cmd_list.specs.Commands.{answer_of, command};
@@ -17,9 +17,9 @@ use crate::list_ask::ListAsk;
 use crate::{edits, moves, pops, pushes, telling};
 use mr_arguments::Argument;
 use mr_bytes::End;
+use mr_cmd_shared::{Effects, look, wrong_kind};
 use mr_data::{Dataset, Given, Plan};
 use mr_resp::Reply;
-use mr_room::{Effects, look, wrong_kind};
 use mr_value::ListValue;
 use std::alloc::{AllocError, Global};
 
@@ -30,13 +30,16 @@ pub fn plan(
     ask: &ListAsk<'_, '_>,
     given: Given,
 ) -> Result<Plan, AllocError>
-    ensures plan { IfOk result (λ p. IsPlan (command ask.now) given.now held.now (view p.reply) p.effects.items) }
+    ensures plan { IfOk result (λ p.
+        IsPlan (command ask.now) given.now held.now (view p.reply) p.effects.items) }
 
     // The effects lead to what the command leaves, and its own ones are there exactly where it changes something.
-    ensures faithful { IsTrue (list_all fits (list_words ask.now)) → IsFaithful (command ask.now) given.now held.now }
+    ensures faithful { IsTrue (list_all fits (list_words ask.now)) →
+        IsFaithful (command ask.now) given.now held.now }
 
     // .. and their texts are command texts.
-    ensures texts { IsTrue (list_all fits (list_words ask.now)) → HasCommandTexts (command ask.now) given.now held.now }
+    ensures texts { IsTrue (list_all fits (list_words ask.now)) →
+        HasCommandTexts (command ask.now) given.now held.now }
 {
     planned(alloc, held, ask, given)
 }
@@ -48,7 +51,8 @@ fn planned(
     ask: &ListAsk<'_, '_>,
     given: Given,
 ) -> Result<Plan, AllocError>
-    ensures plan { IfOk result (λ p. IsPlan (command ask.now) given.now held.now (view p.reply) p.effects.items) }
+    ensures plan { IfOk result (λ p.
+        IsPlan (command ask.now) given.now held.now (view p.reply) p.effects.items) }
     ensures kept { IsDataset held.now }
     ensures numbers { HasNumbersIn ask.now given.now held.now }
 {
@@ -82,7 +86,9 @@ fn at_key(
     ask: &ListAsk<'_, '_>,
     given: Given,
 ) -> Result<Plan, AllocError>
-    ensures plan { IfOk result (λ p. IsPlan (on_key key.now (answer_of ask.now)) given.now held.now (view p.reply) p.effects.items) }
+    ensures plan { IfOk result (λ p.
+        IsPlan (on_key key.now (answer_of ask.now)) given.now held.now (view p.reply)
+        p.effects.items) }
     ensures kept { IsDataset held.now }
     ensures numbers { HasNumbers ask.now (live given.now (get held.now key.now)) }
 {
@@ -113,7 +119,9 @@ fn answer_of(
     list: Option<&ListValue>,
     effects: &mut Effects,
 ) -> Result<Reply, AllocError>
-    ensures { IfOk result (λ r. Takes (answer_of ask.now (entry_with (option_copied list.entry))) (view r) effects.old effects.new) }
+    ensures { IfOk result (λ r.
+        Takes (answer_of ask.now (entry_with (option_copied list.entry))) (view r) effects.old
+        effects.new) }
 {
     match ask {
         ListAsk::Push {

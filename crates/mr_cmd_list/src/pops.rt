@@ -1,16 +1,16 @@
 // Items taken from an end of a list.
 ghost use Rattle.std.specs.Prelude.{◌≡◌, ◌≤◌, min, length, map, IfOk, option_copied};
 ghost use Rattle.mr_resp.specs.ReplyView.{view};
-ghost use Rattle.mr_room.specs.Answered.{Takes};
+ghost use Rattle.mr_cmd_shared.specs.Answered.{Takes};
 ghost use Rattle.mr_cmd_list.specs.Lists.{entry_with, items_reply};
 ghost use Rattle.mr_cmd_list.specs.Pops.{pop_answer, taken_items};
 
 use crate::ends::end_item;
 use mr_arguments::Argument;
 use mr_bytes::{End, Word};
+use mr_cmd_shared::{Effects, bulk};
 use mr_data::Effect;
 use mr_resp::Reply;
-use mr_room::{Effects, bulk};
 use mr_value::ListValue;
 use std::alloc::{AllocError, Global};
 
@@ -23,7 +23,9 @@ pub fn pop(
     list: Option<&ListValue>,
     effects: &mut Effects,
 ) -> Result<Reply, AllocError>
-    ensures { IfOk result (λ r. Takes (pop_answer key.now end count (entry_with (option_copied list.entry))) (view r) effects.old effects.new) }
+    ensures { IfOk result (λ r.
+        Takes (pop_answer key.now end count (entry_with (option_copied list.entry))) (view r)
+        effects.old effects.new) }
 {
     match count {
         None => pop_one(alloc, key, end, list, effects),
@@ -39,7 +41,9 @@ fn pop_one(
     list: Option<&ListValue>,
     effects: &mut Effects,
 ) -> Result<Reply, AllocError>
-    ensures { IfOk result (λ r. Takes (pop_answer key.now end None (entry_with (option_copied list.entry))) (view r) effects.old effects.new) }
+    ensures { IfOk result (λ r.
+        Takes (pop_answer key.now end None (entry_with (option_copied list.entry))) (view r)
+        effects.old effects.new) }
 {
     let Some(list) = list else {
         return Ok(Reply::NullBulk);
@@ -65,7 +69,9 @@ fn pop_some(
     list: Option<&ListValue>,
     effects: &mut Effects,
 ) -> Result<Reply, AllocError>
-    ensures { IfOk result (λ r. Takes (pop_answer key.now end (Some most) (entry_with (option_copied list.entry))) (view r) effects.old effects.new) }
+    ensures { IfOk result (λ r.
+        Takes (pop_answer key.now end (Some most) (entry_with (option_copied list.entry))) (view r)
+        effects.old effects.new) }
 {
     let Some(list) = list else {
         return Ok(Reply::NullArray);

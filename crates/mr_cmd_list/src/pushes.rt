@@ -3,17 +3,17 @@ ghost use Rattle.std.specs.Prelude.{◌≡◌, ◌+◌, ◌<◌, ◌^◌, ◌++�
 ghost use Rattle.std.specs.Cow.{cow_slice_items};
 ghost use Rattle.mr_resp.specs.Replies.{int};
 ghost use Rattle.mr_resp.specs.ReplyView.{view};
-ghost use Rattle.mr_entries.specs.Cuts.{cut};
-ghost use Rattle.mr_room.specs.Answered.{Takes};
+ghost use Rattle.mr_keyspace.specs.Cuts.{cut};
+ghost use Rattle.mr_cmd_shared.specs.Answered.{Takes};
 ghost use Rattle.mr_cmd_list.specs.Lists.{entry_with};
 ghost use Rattle.mr_cmd_list.specs.Pushes.{push_answer, push_effects};
 
 use crate::list_ask::PushTo;
 use mr_arguments::{Argument, Words};
 use mr_bytes::{End, Word};
+use mr_cmd_shared::{Effects, integer};
 use mr_data::{Effect, EffectWords};
 use mr_resp::Reply;
-use mr_room::{Effects, integer};
 use mr_value::ListValue;
 use std::alloc::{AllocError, Global};
 use std::borrow::CowSlice;
@@ -28,7 +28,9 @@ pub fn push(
     list: Option<&ListValue>,
     effects: &mut Effects,
 ) -> Result<Reply, AllocError>
-    ensures { IfOk result (λ r. Takes (push_answer key.now end to items.now (entry_with (option_copied list.entry))) (view r) effects.old effects.new) }
+    ensures { IfOk result (λ r.
+        Takes (push_answer key.now end to items.now (entry_with (option_copied list.entry)))
+        (view r) effects.old effects.new) }
 {
     let before = match (list, to) {
         (Some(list), _) => list.len(),
@@ -50,7 +52,8 @@ fn push_groups(
     items: &[CowSlice<'_, u8>],
     effects: &mut Effects,
 ) -> Result<(), AllocError>
-    ensures { OnOk result (effects.new ≡ effects.old ++ push_effects key.now end (cut (map cow_slice_items items.now))) }
+    ensures { OnOk result (effects.new ≡
+        effects.old ++ push_effects key.now end (cut (map cow_slice_items items.now))) }
 {
     let mut start = 0;
     while start < items.len() {

@@ -3,8 +3,8 @@ ghost use Rattle.std.specs.Prelude.{◌≡◌, [], IfOk};
 ghost use Rattle.mr_resp.specs.ReplyView.{view};
 ghost use Rattle.mr_cmd_list.specs.Lists.{items_reply, no_such_key, out_of_range};
 
+use mr_cmd_shared::bulk;
 use mr_resp::Reply;
-use mr_room::bulk;
 use mr_value::Items;
 use std::alloc::{AllocError, Global};
 use std::borrow::CowSlice;

@@ -6,8 +6,8 @@ ghost use Rattle.mr_cmd_list.specs.Telling.{llen_answer, lrange_answer, lindex_a
 
 use crate::replies::{listed, none_listed};
 use mr_bytes::{place, window};
+use mr_cmd_shared::{bulk, integer};
 use mr_resp::Reply;
-use mr_room::{bulk, integer};
 use mr_value::ListValue;
 use std::alloc::{AllocError, Global};
 
@@ -28,7 +28,8 @@ pub fn lrange(
     last: i64,
     list: Option<&ListValue>,
 ) -> Result<Reply, AllocError>
-    ensures { IfOk result (λ r. view r ≡ (lrange_answer first last (entry_with (option_copied list.entry))).reply) }
+    ensures { IfOk result (λ r.
+        view r ≡ (lrange_answer first last (entry_with (option_copied list.entry))).reply) }
 {
     let Some(list) = list else {
         return Ok(none_listed(alloc));
@@ -41,7 +42,8 @@ pub fn lrange(
 
 /// The item that an index names.
 pub fn lindex(alloc: Global, index: i64, list: Option<&ListValue>) -> Result<Reply, AllocError>
-    ensures { IfOk result (λ r. view r ≡ (lindex_answer index (entry_with (option_copied list.entry))).reply) }
+    ensures { IfOk result (λ r.
+        view r ≡ (lindex_answer index (entry_with (option_copied list.entry))).reply) }
 {
     let Some(list) = list else {
         return Ok(Reply::NullBulk);

@@ -2,11 +2,11 @@
 use Rattle.std.specs.Prelude.{List, ℕ, codes, Option, Some, None}
 use Rattle.mr_resp.specs.Replies as reply
 use Rattle.mr_resp.specs.Replies.{Tree}
-use Rattle.mr_room.specs.Answered.{done}
+use Rattle.mr_cmd_shared.specs.Answered.{done}
 use Rattle.mr_cmd_server.specs.declared.server_ask.ServerAsk.{ServerAsk}
 use Rattle.mr_cmd_server.specs.declared.server_ask.ServerAsk.TheVariants as ask
-use Rattle.mr_room.specs.Outcomes.{answered}
-use Rattle.mr_room.specs.Commands.{Command, on_none}
+use Rattle.mr_cmd_shared.specs.Outcomes.{answered}
+use Rattle.mr_cmd_shared.specs.Commands.{Command, on_none}
 
 -- PING [message]
 abbrev pub pong : Option (List ℕ) → Tree

@@ -1,13 +1,13 @@
 // Commands to the server itself.
 ghost use Rattle.std.specs.Prelude.{◌≡◌, IfOk};
 ghost use Rattle.mr_resp.specs.ReplyView.{view};
-ghost use Rattle.mr_room.specs.Commands.{IsPlan, IsFaithful, HasCommandTexts};
+ghost use Rattle.mr_cmd_shared.specs.Commands.{IsPlan, IsFaithful, HasCommandTexts};
 ghost use Rattle.mr_cmd_server.specs.Commands.{command, server_reply};
 
 use crate::server_ask::ServerAsk;
+use mr_cmd_shared::{Effects, bulk, done};
 use mr_data::{Dataset, Given, Plan};
 use mr_resp::Reply;
-use mr_room::{Effects, bulk, done};
 use std::alloc::{AllocError, Global};
 use std::borrow::CowSlice;
 
@@ -19,7 +19,8 @@ pub fn plan(
     ask: &ServerAsk<'_, '_>,
     _given: Given,
 ) -> Result<Plan, AllocError>
-    ensures plan { IfOk result (λ p. IsPlan (command ask.now) _given.now _held.now (view p.reply) p.effects.items) }
+    ensures plan { IfOk result (λ p.
+        IsPlan (command ask.now) _given.now _held.now (view p.reply) p.effects.items) }
     ensures faithful { IsFaithful (command ask.now) _given.now _held.now }
 
     // .. and their texts are command texts.

@@ -6,18 +6,18 @@ use Rattle.std.specs.FinMap.{get}
 use Rattle.mr_map.specs.Bytes.{Bytes}
 use Rattle.mr_bytes.specs.Words.{fits}
 use Rattle.mr_resp.specs.Replies.{Tree}
-use Rattle.mr_entries.specs.Dataset.{Dataset}
+use Rattle.mr_keyspace.specs.Dataset.{Dataset}
 use Rattle.mr_data.specs.Dataset.{live}
-use Rattle.mr_entries.specs.Steps.{sets, held}
-use Rattle.mr_entries.specs.declared.value.Entry.{Entry}
+use Rattle.mr_keyspace.specs.Steps.{sets, held}
+use Rattle.mr_keyspace.specs.declared.value.Entry.{Entry}
 use Rattle.mr_effect.specs.declared.effect.Effect.{Effect}
-use Rattle.mr_room.specs.Answered.{Takes, kept, wrong_kind}
-use Rattle.mr_room.specs.Keys.{dels, expired}
-use Rattle.mr_room.specs.Collections.{Change, telling, changed, changing}
-use Rattle.mr_room.specs.Commands.{on_key, before, Plans}
-use Rattle.mr_room.proofs.PlanLemmas.{on_key_plans, takes_reply}
-use Rattle.mr_room.proofs.Laws.{faithful, at_key_faithful, IsLawful}
-use Rattle.mr_room.proofs.Changing.{telling_faithful}
+use Rattle.mr_cmd_shared.specs.Answered.{Takes, kept, wrong_kind}
+use Rattle.mr_cmd_shared.specs.Keys.{dels, expired}
+use Rattle.mr_cmd_shared.specs.Collections.{Change, telling, changed, changing}
+use Rattle.mr_cmd_shared.specs.Commands.{on_key, before, Plans}
+use Rattle.mr_cmd_shared.proofs.PlanLemmas.{on_key_plans, takes_reply}
+use Rattle.mr_cmd_shared.proofs.Laws.{faithful, at_key_faithful, IsLawful}
+use Rattle.mr_cmd_shared.proofs.Changing.{telling_faithful}
 use Rattle.mr_cmd_set.specs.Members.{Members}
 use Rattle.mr_cmd_set.specs.Sets.{Makes}
 

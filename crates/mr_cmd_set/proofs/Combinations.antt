@@ -11,16 +11,16 @@ use Rattle.std.proofs.lemmas.Map.Lookups.{exact_bytes}
 use Rattle.mr_map.specs.Bytes.{Bytes, bytes_cmp}
 use Rattle.mr_cmd_set.specs.declared.set_ask.SetOperation.{SetOperation}
 use Rattle.mr_cmd_set.specs.declared.set_ask.SetOperation.TheVariants as operation
-use Rattle.mr_entries.specs.Dataset.{Dataset}
+use Rattle.mr_keyspace.specs.Dataset.{Dataset}
 use Rattle.mr_data.specs.Dataset.{live, seen}
-use Rattle.mr_entries.specs.declared.value.Entry.{Entry}
+use Rattle.mr_keyspace.specs.declared.value.Entry.{Entry}
 use Rattle.mr_data.proofs.Seeing.{get-seen}
 use Rattle.mr_effect.specs.declared.effect.Effect.{Effect}
-use Rattle.mr_room.specs.Keys.{is_stored, expired, dels}
-use Rattle.mr_entries.specs.Steps.{sets, held}
+use Rattle.mr_cmd_shared.specs.Keys.{is_stored, expired, dels}
+use Rattle.mr_keyspace.specs.Steps.{sets, held}
 use Rattle.std.proofs.lemmas.List.{map-append}
 use Rattle.std.proofs.lemmas.List.Folds.{list_any-append}
-use Rattle.mr_room.proofs.KeyLists.{more_words}
+use Rattle.mr_cmd_shared.proofs.KeyLists.{more_words}
 use Rattle.mr_cmd_set.specs.Members.{Members, joined}
 use Rattle.mr_cmd_set.specs.Grouping.{members_of, agrees, is_wanted}
 use Rattle.mr_cmd_set.specs.Finding.{HasFound, is_any_expired}

@@ -4,12 +4,12 @@ use Rattle.std.specs.Prelude.{IsTrue, ℤ}
 use Rattle.std.specs.List.{list_all}
 use Rattle.std.specs.FinMap.{contains_key, keys, len}
 use Rattle.mr_bytes.specs.Words.{fits}
-use Rattle.mr_entries.specs.Dataset.{Dataset}
+use Rattle.mr_keyspace.specs.Dataset.{Dataset}
 use Rattle.mr_cmd_set.specs.Carried.{set_words}
 use Rattle.mr_cmd_set.specs.declared.set_ask.SetAsk.{SetAsk}
 use Rattle.mr_cmd_set.specs.declared.set_ask.SetAsk.TheVariants as ask
-use Rattle.mr_room.specs.Commands.{before}
-use Rattle.mr_room.proofs.Laws.{faithful, answered_faithful, IsLawful}
+use Rattle.mr_cmd_shared.specs.Commands.{before}
+use Rattle.mr_cmd_shared.proofs.Laws.{faithful, answered_faithful, IsLawful}
 use Rattle.mr_cmd_set.specs.declared.grouping.Write.TheVariants as write
 use Rattle.mr_cmd_set.specs.Members.{as_set}
 use Rattle.mr_cmd_set.specs.Sets.{added, adding, removed, removing, taken, taking, drawn_reply, flag, flags, bulks, number}

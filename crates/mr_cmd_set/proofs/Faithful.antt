@@ -5,23 +5,23 @@ use Rattle.std.specs.List.{list_all}
 use Rattle.std.specs.FinMap.{get, empty, keys, contains_key}
 use Rattle.mr_map.specs.Bytes.{Bytes}
 use Rattle.mr_bytes.specs.Words.{fits}
-use Rattle.mr_entries.specs.Dataset.{Dataset}
+use Rattle.mr_keyspace.specs.Dataset.{Dataset}
 use Rattle.mr_data.specs.Dataset.{IsDataset, IsValue, live, is_expired}
-use Rattle.mr_entries.specs.Collections.{with_members, without_members}
-use Rattle.mr_entries.specs.Steps.{sets, held, set_of}
-use Rattle.mr_entries.specs.declared.value.Value.{Value}
-use Rattle.mr_entries.specs.declared.value.Value.TheVariants as value
-use Rattle.mr_entries.specs.declared.value.Entry.{Entry}
-use Rattle.mr_room.specs.Taken.{is_key, has}
-use Rattle.mr_room.specs.Keys.{purged}
-use Rattle.mr_room.specs.Collections.{Change, changing}
-use Rattle.mr_room.specs.Commands.{on_key, before}
-use Rattle.mr_entries.proofs.Maps.{same_key}
-use Rattle.mr_entries.proofs.Puts.{is_key_itself}
-use Rattle.mr_room.proofs.KeyLists.{get_purged}
-use Rattle.mr_room.proofs.Laws.{faithful, at_key_faithful, IsLawful}
+use Rattle.mr_keyspace.specs.Collections.{with_members, without_members}
+use Rattle.mr_keyspace.specs.Steps.{sets, held, set_of}
+use Rattle.mr_keyspace.specs.declared.value.Value.{Value}
+use Rattle.mr_keyspace.specs.declared.value.Value.TheVariants as value
+use Rattle.mr_keyspace.specs.declared.value.Entry.{Entry}
+use Rattle.mr_cmd_shared.specs.Taken.{is_key, has}
+use Rattle.mr_cmd_shared.specs.Keys.{purged}
+use Rattle.mr_cmd_shared.specs.Collections.{Change, changing}
+use Rattle.mr_cmd_shared.specs.Commands.{on_key, before}
+use Rattle.mr_keyspace.proofs.Maps.{same_key}
+use Rattle.mr_keyspace.proofs.Puts.{is_key_itself}
+use Rattle.mr_cmd_shared.proofs.KeyLists.{get_purged}
+use Rattle.mr_cmd_shared.proofs.Laws.{faithful, at_key_faithful, IsLawful}
 use Rattle.mr_data.proofs.KindLaws.{sets_are, sets_kept}
-use Rattle.mr_room.proofs.Changing.{IsFaithfulChange, changing_faithful}
+use Rattle.mr_cmd_shared.proofs.Changing.{IsFaithfulChange, changing_faithful}
 use Rattle.mr_cmd_set.specs.Members.{Members, as_set, from_place}
 use Rattle.mr_cmd_set.specs.Sets.{added, removed, taken, count_or_one}
 use Rattle.mr_cmd_set.proofs.Sets.{same_set, contains_empty, contains_with, contains_without, contains_retain, contains_as_set, has_keys}

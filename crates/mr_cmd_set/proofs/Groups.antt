@@ -6,18 +6,18 @@ use Rattle.std.specs.FinMap.{empty, keys, len}
 use Rattle.mr_map.specs.Bytes.{Bytes}
 use Rattle.mr_bytes.specs.Words.{fits}
 use Rattle.mr_resp.specs.Replies.{Tree}
-use Rattle.mr_entries.specs.Collections.{with_members, without_members}
-use Rattle.mr_entries.specs.Steps.{sets, held, entry_of, deadline_of}
-use Rattle.mr_entries.specs.Changes.{change}
-use Rattle.mr_entries.specs.declared.value.Entry.{Entry}
-use Rattle.mr_entries.proofs.Nonempty.{without_members_none, no_elements}
+use Rattle.mr_keyspace.specs.Collections.{with_members, without_members}
+use Rattle.mr_keyspace.specs.Steps.{sets, held, entry_of, deadline_of}
+use Rattle.mr_keyspace.specs.Changes.{change}
+use Rattle.mr_keyspace.specs.declared.value.Entry.{Entry}
+use Rattle.mr_keyspace.proofs.Nonempty.{without_members_none, no_elements}
 use Rattle.mr_effect.specs.Effects.{is_some_of}
-use Rattle.mr_entries.specs.Cuts.{cut}
-use Rattle.mr_entries.proofs.Cutting.{IsGroup, cut_groups, cut_whole, no_cut}
+use Rattle.mr_keyspace.specs.Cuts.{cut}
+use Rattle.mr_keyspace.proofs.Cutting.{IsGroup, cut_groups, cut_whole, no_cut}
 use Rattle.mr_data.proofs.Folds.{adding_members, add_members_is_step}
 use Rattle.mr_data.proofs.Running.{IsStep, steps_of, IsFold, group_step, groups_run}
 use Rattle.mr_data.proofs.KindLaws.{sets_are}
-use Rattle.mr_room.proofs.Changing.{IsFaithfulChange}
+use Rattle.mr_cmd_shared.proofs.Changing.{IsFaithfulChange}
 use Rattle.mr_cmd_set.specs.declared.grouping.Write.{Write}
 use Rattle.mr_cmd_set.specs.declared.grouping.Write.TheVariants as write
 use Rattle.mr_cmd_set.specs.Members.{Members}

@@ -13,8 +13,8 @@ use Rattle.mr_map.specs.Bytes.{Bytes, bytes_cmp}
 use Rattle.mr_cmd_set.specs.declared.set_ask.SetOperation.TheVariants as operation
 use Rattle.mr_cmd_set.specs.Members.{Members, common, minus, joined, from_place, drawn}
 use Rattle.mr_cmd_set.specs.Combining.{of_all}
-use Rattle.mr_room.specs.Taken.{is_key}
-use Rattle.mr_entries.proofs.Maps.{same_key}
+use Rattle.mr_cmd_shared.specs.Taken.{is_key}
+use Rattle.mr_keyspace.proofs.Maps.{same_key}
 use Rattle.mr_cmd_set.proofs.Pushing.{names}
 use Rattle.mr_cmd_set.proofs.Sets.{contains_retain, contains_with, has_keys, len_keys}
 

@@ -10,25 +10,25 @@ use Rattle.std.proofs.lemmas.Slice.Eq.{bytes_eq-Decides}
 use Rattle.mr_map.specs.Bytes.{Bytes}
 use Rattle.mr_bytes.specs.Words.{fits}
 use Rattle.mr_resp.specs.Replies.{Tree}
-use Rattle.mr_entries.specs.Dataset.{Dataset, put_at}
+use Rattle.mr_keyspace.specs.Dataset.{Dataset, put_at}
 use Rattle.mr_data.specs.Dataset.{live, seen}
-use Rattle.mr_entries.specs.Steps.{sets, held, entry_of, deadline_of, set_of, add_members_step, remove_members_step}
-use Rattle.mr_entries.specs.Changes.{change, at_key, is_member, has_member, carry_member}
+use Rattle.mr_keyspace.specs.Steps.{sets, held, entry_of, deadline_of, set_of, add_members_step, remove_members_step}
+use Rattle.mr_keyspace.specs.Changes.{change, at_key, is_member, has_member, carry_member}
 use Rattle.mr_data.specs.Meaning.{apply, apply_all}
-use Rattle.mr_entries.specs.declared.value.Value.{Value}
-use Rattle.mr_entries.specs.declared.value.Value.TheVariants as value
-use Rattle.mr_entries.specs.declared.value.Entry.{Entry}
+use Rattle.mr_keyspace.specs.declared.value.Value.{Value}
+use Rattle.mr_keyspace.specs.declared.value.Value.TheVariants as value
+use Rattle.mr_keyspace.specs.declared.value.Entry.{Entry}
 use Rattle.mr_data.proofs.Seeing.{get-seen}
 use Rattle.mr_effect.specs.declared.effect.Effect.{Effect}
 use Rattle.mr_effect.specs.declared.effect.Effect.TheVariants as effect
-use Rattle.mr_room.specs.Taken.{is_key, has}
-use Rattle.mr_room.specs.Keys.{expired, purged, dels, is_stored}
-use Rattle.mr_room.specs.Outcomes.{answered}
-use Rattle.mr_room.specs.Commands.{Command, before, Plans}
-use Rattle.mr_entries.proofs.Maps.{same_key}
-use Rattle.mr_entries.proofs.Puts.{is_key_itself, get_put, get_put_other, get_remove}
-use Rattle.mr_room.proofs.KeyLists.{get_purged}
-use Rattle.mr_room.proofs.Laws.{faithful, IsFaithfulAt, IsLawful, answered_faithful, one_short}
+use Rattle.mr_cmd_shared.specs.Taken.{is_key, has}
+use Rattle.mr_cmd_shared.specs.Keys.{expired, purged, dels, is_stored}
+use Rattle.mr_cmd_shared.specs.Outcomes.{answered}
+use Rattle.mr_cmd_shared.specs.Commands.{Command, before, Plans}
+use Rattle.mr_keyspace.proofs.Maps.{same_key}
+use Rattle.mr_keyspace.proofs.Puts.{is_key_itself, get_put, get_put_other, get_remove}
+use Rattle.mr_cmd_shared.proofs.KeyLists.{get_purged}
+use Rattle.mr_cmd_shared.proofs.Laws.{faithful, IsFaithfulAt, IsLawful, answered_faithful, one_short}
 use Rattle.mr_data.proofs.Running.{held_entry}
 use Rattle.mr_data.proofs.KindLaws.{sets_are}
 use Rattle.mr_cmd_set.specs.Members.{Members}

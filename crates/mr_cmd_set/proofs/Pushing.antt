@@ -9,8 +9,8 @@ use Rattle.std.proofs.lemmas.List.{nil_from_length}
 use Rattle.std.proofs.lemmas.Cmp.{nat_list_cmp_total}
 use Rattle.mr_map.specs.Bytes.{Bytes, bytes_cmp}
 use Rattle.mr_effect.specs.declared.effect.Effect.{Effect}
-use Rattle.mr_entries.specs.Cuts.{most_items, cut}
-use Rattle.mr_entries.proofs.Cutting.{cut_more}
+use Rattle.mr_keyspace.specs.Cuts.{most_items, cut}
+use Rattle.mr_keyspace.proofs.Cutting.{cut_more}
 use Rattle.mr_cmd_set.specs.declared.grouping.Write.{Write}
 use Rattle.mr_cmd_set.specs.Members.{as_set}
 use Rattle.mr_cmd_set.specs.Grouping.{group_effect, group_effects}

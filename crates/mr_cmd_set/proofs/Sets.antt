@@ -7,11 +7,11 @@ use Rattle.std.proofs.lemmas.List.{length-map, nil_from_length}
 use Rattle.std.proofs.lemmas.Cmp.{nat_list_cmp_total}
 use Rattle.std.proofs.lemmas.Map.Lookups.{exact_bytes}
 use Rattle.mr_map.specs.Bytes.{Bytes, bytes_cmp}
-use Rattle.mr_entries.specs.Collections.{with_members, without_members}
-use Rattle.mr_room.specs.Taken.{is_key, has}
-use Rattle.mr_entries.proofs.Maps.{same_key}
+use Rattle.mr_keyspace.specs.Collections.{with_members, without_members}
+use Rattle.mr_cmd_shared.specs.Taken.{is_key, has}
+use Rattle.mr_keyspace.proofs.Maps.{same_key}
 use Rattle.mr_data.proofs.Folds.{members-append}
-use Rattle.mr_room.proofs.KeyLists.{more_words}
+use Rattle.mr_cmd_shared.proofs.KeyLists.{more_words}
 use Rattle.mr_cmd_set.specs.Members.{Members, as_set}
 
 some_or : (b : Bool) (x : Option (Unit {0})) → is_some (cond b (Some tt) x) ≡ (b || is_some x)

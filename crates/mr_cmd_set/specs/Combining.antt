@@ -6,10 +6,10 @@ use Rattle.mr_map.specs.Bytes.{Bytes}
 use Rattle.mr_resp.specs.Replies.{Tree}
 use Rattle.mr_cmd_set.specs.declared.set_ask.SetOperation.{SetOperation}
 use Rattle.mr_cmd_set.specs.declared.set_ask.SetOperation.TheVariants as operation
-use Rattle.mr_entries.specs.Dataset.{Dataset}
-use Rattle.mr_entries.specs.Steps.{sets, held}
-use Rattle.mr_room.specs.Answered.{wrong_kind}
-use Rattle.mr_room.specs.Outcomes.{Outcome, answered}
+use Rattle.mr_keyspace.specs.Dataset.{Dataset}
+use Rattle.mr_keyspace.specs.Steps.{sets, held}
+use Rattle.mr_cmd_shared.specs.Answered.{wrong_kind}
+use Rattle.mr_cmd_shared.specs.Outcomes.{Outcome, answered}
 use Rattle.mr_cmd_set.specs.Members.{Members, common, minus, joined}
 use Rattle.mr_cmd_set.specs.Sets.{bulks}
 

@@ -4,9 +4,9 @@ use Rattle.std.specs.Borrow.{Bor}
 use Rattle.std.specs.List.{list_any}
 use Rattle.std.specs.FinMap.{get}
 use Rattle.mr_map.specs.Bytes.{Bytes}
-use Rattle.mr_entries.specs.Dataset.{Dataset}
+use Rattle.mr_keyspace.specs.Dataset.{Dataset}
 use Rattle.mr_data.specs.Dataset.{seen}
-use Rattle.mr_room.specs.Keys.{is_stored}
+use Rattle.mr_cmd_shared.specs.Keys.{is_stored}
 use Rattle.mr_cmd_set.specs.Members.{Members}
 use Rattle.mr_cmd_set.specs.Grouping.{members_of}
 use Rattle.mr_cmd_set.specs.Combining.{sets_at}

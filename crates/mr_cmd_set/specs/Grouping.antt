@@ -6,7 +6,7 @@ use Rattle.std.specs.Borrow.{Bor}
 use Rattle.mr_map.specs.Bytes.{Bytes}
 use Rattle.mr_effect.specs.declared.effect.Effect.{Effect}
 use Rattle.mr_effect.specs.declared.effect.Effect.TheVariants as effect
-use Rattle.mr_entries.specs.Cuts.{cut}
+use Rattle.mr_keyspace.specs.Cuts.{cut}
 use Rattle.mr_cmd_set.specs.declared.grouping.Write.{Write}
 use Rattle.mr_cmd_set.specs.declared.grouping.Write.TheVariants as write
 use Rattle.mr_cmd_set.specs.Members.{Members}

@@ -2,7 +2,7 @@
 use Rattle.std.specs.Prelude.{ℕ, ◌%◌, List, ◌++◌, take, drop, length, not}
 use Rattle.std.specs.FinMap.{empty, keys, contains_key, retain_keys}
 use Rattle.mr_map.specs.Bytes.{Bytes, ByteMap}
-use Rattle.mr_entries.specs.Collections.{with_members}
+use Rattle.mr_keyspace.specs.Collections.{with_members}
 
 abbrev pub Members : Type 0
 Members = ByteMap (Unit {0})

@@ -3,13 +3,13 @@ use Rattle.std.specs.Prelude.{◌≡◌, List, [], ◌∷◌, ◌++◌, if◌the
 use Rattle.std.specs.FinMap.{get, contains_key, insert, remove}
 use Rattle.std.specs.Str.{bytes_eq}
 use Rattle.mr_map.specs.Bytes.{Bytes}
-use Rattle.mr_entries.specs.Dataset.{Dataset, put_at}
-use Rattle.mr_entries.specs.Steps.{sets, held, entry_of, deadline_of}
+use Rattle.mr_keyspace.specs.Dataset.{Dataset, put_at}
+use Rattle.mr_keyspace.specs.Steps.{sets, held, entry_of, deadline_of}
 use Rattle.mr_effect.specs.declared.effect.Effect.{Effect}
 use Rattle.mr_effect.specs.declared.effect.Effect.TheVariants as effect
 use Rattle.mr_resp.specs.Replies.{Tree}
-use Rattle.mr_room.specs.Answered.{wrong_kind}
-use Rattle.mr_room.specs.Outcomes.{Outcome, answered}
+use Rattle.mr_cmd_shared.specs.Answered.{wrong_kind}
+use Rattle.mr_cmd_shared.specs.Outcomes.{Outcome, answered}
 use Rattle.mr_cmd_set.specs.Members.{Members}
 use Rattle.mr_cmd_set.specs.Sets.{number}
 

@@ -4,10 +4,10 @@ use Rattle.std.specs.FinMap.{contains_key, keys, len}
 use Rattle.mr_resp.specs.Replies.{Tree}
 use Rattle.mr_cmd_set.specs.declared.set_ask.SetAsk.{SetAsk}
 use Rattle.mr_cmd_set.specs.declared.set_ask.SetAsk.TheVariants as ask
-use Rattle.mr_entries.specs.Dataset.{Dataset}
+use Rattle.mr_keyspace.specs.Dataset.{Dataset}
 use Rattle.mr_data.specs.Dataset.{IsDataset}
-use Rattle.mr_room.specs.Collections.{Change}
-use Rattle.mr_room.specs.Commands.{Command, on_key}
+use Rattle.mr_cmd_shared.specs.Collections.{Change}
+use Rattle.mr_cmd_shared.specs.Commands.{Command, on_key}
 use Rattle.mr_cmd_set.specs.Members.{Members}
 use Rattle.mr_cmd_set.specs.Sets.{number, flag, flags, bulks, adding, removing, taking, drawn_reply, taken, sismember_answer, smismember_answer, smembers_answer, scard_answer, sadd_answer, srem_answer, spop_answer, srandmember_answer}
 use Rattle.mr_cmd_set.specs.Moving.{smove}

@@ -5,14 +5,14 @@ use Rattle.mr_map.specs.Bytes.{Bytes}
 use Rattle.mr_resp.specs.Replies as reply
 use Rattle.mr_resp.specs.Replies.{Tree}
 use Rattle.mr_resp.specs.ReplyView.{trees_of}
-use Rattle.mr_entries.specs.Collections.{with_members, without_members}
-use Rattle.mr_entries.specs.Steps.{sets}
-use Rattle.mr_entries.specs.declared.value.Entry.{Entry}
+use Rattle.mr_keyspace.specs.Collections.{with_members, without_members}
+use Rattle.mr_keyspace.specs.Steps.{sets}
+use Rattle.mr_keyspace.specs.declared.value.Entry.{Entry}
 use Rattle.mr_effect.specs.declared.effect.Effect.{Effect}
 use Rattle.mr_effect.specs.declared.effect.Effect.TheVariants as effect
-use Rattle.mr_room.specs.Answered.{Answered}
-use Rattle.mr_room.specs.Collections.{Change, telling, changing}
-use Rattle.mr_entries.specs.Cuts.{cut}
+use Rattle.mr_cmd_shared.specs.Answered.{Answered}
+use Rattle.mr_cmd_shared.specs.Collections.{Change, telling, changing}
+use Rattle.mr_keyspace.specs.Cuts.{cut}
 use Rattle.mr_cmd_set.specs.Members.{Members, as_set, common, minus, drawn}
 
 -- ---- replies

@@ -6,7 +6,7 @@ ghost use Rattle.std.specs.FinMap as map;
 ghost use Rattle.mr_resp.specs.ReplyView.{view};
 ghost use Rattle.mr_data.specs.Dataset.{seen};
 ghost use Rattle.mr_cmd_set.specs.declared.set_ask.SetOperation.TheVariants as operation;
-ghost use Rattle.mr_room.specs.Keys.{dels, expired};
+ghost use Rattle.mr_cmd_shared.specs.Keys.{dels, expired};
 ghost use Rattle.mr_cmd_set.specs.Combining.{sets_at, combined, of_all};
 ghost use Rattle.mr_cmd_set.specs.Finding.{HasFound};
 ghost use Rattle.mr_cmd_set.specs.Members.{joined};
@@ -17,10 +17,10 @@ ghost use Rattle.mr_cmd_set.specs.Sets.{bulks};
 use crate::finding::set_at;
 use crate::set_ask::SetOperation;
 use mr_arguments::Words;
+use mr_cmd_shared::{Effects, bulk, push_dels, see};
 use mr_data::{Dataset, Given};
 use mr_map::SliceMap;
 use mr_resp::Reply;
-use mr_room::{Effects, bulk, push_dels, see};
 use mr_value::SetValue;
 use std::alloc::{AllocError, Global};
 
@@ -40,8 +40,11 @@ pub fn look_at_all<'d>(
     effects: &mut Effects,
 ) -> Result<Option<Sets<'d>>, AllocError>
     requires { empty.now ≡ map.empty }
-    ensures sets { IfOk result (λ r. option_map (λ s. members_of s.items.items) r ≡ sets_at keys.now (seen given.now held.now)) }
-    ensures expired { IfOk result (λ _. effects.new ≡ effects.old ++ dels (expired given.now keys.now held.now)) }
+    ensures sets { IfOk result (λ r.
+        option_map (λ s. members_of s.items.items) r ≡
+        sets_at keys.now (seen given.now held.now)) }
+    ensures expired { IfOk result (λ _.
+        effects.new ≡ effects.old ++ dels (expired given.now keys.now held.now)) }
 {
     let found = find_all(alloc, held, keys, given, empty)?;
     if found.expired {
@@ -71,7 +74,8 @@ fn find_all<'d>(
     empty: &'d SetValue,
 ) -> Result<Found<'d>, AllocError>
     requires { empty.now ≡ map.empty }
-    ensures { IfOk result (λ f. HasFound given.now held.now keys.now f.sets.items f.other f.expired) }
+    ensures { IfOk result (λ f.
+        HasFound given.now held.now keys.now f.sets.items f.other f.expired) }
 {
     let words = keys.as_slice();
     let mut found = Found {
@@ -92,7 +96,8 @@ fn find_all<'d>(
 
 /// What is made of these sets.
 pub fn combined(alloc: Global, operation: SetOperation, sets: Sets<'_>) -> Result<Reply, AllocError>
-    ensures { IfOk result (λ r. view r ≡ bulks (map.keys (combined operation (members_of sets.entry.items.items)))) }
+    ensures { IfOk result (λ r.
+        view r ≡ bulks (map.keys (combined operation (members_of sets.entry.items.items)))) }
 {
     let sets = in_order(operation, sets.items);
     let Some((first, others)) = sets.split_first() else {
@@ -108,7 +113,8 @@ pub fn combined(alloc: Global, operation: SetOperation, sets: Sets<'_>) -> Resul
 /// Sets in the order in which they are combined. What is in all is in the smallest, and the members of that one are the
 /// fewest to ask the others for.
 fn in_order(operation: SetOperation, mut sets: Vec<&SetValue>) -> Vec<&SetValue>
-    ensures { map.keys (combined operation (members_of result.items)) ≡ map.keys (combined operation (members_of sets.entry.items)) }
+    ensures { map.keys (combined operation (members_of result.items)) ≡
+        map.keys (combined operation (members_of sets.entry.items)) }
 {
     match operation {
         SetOperation::Intersection => {
@@ -138,7 +144,8 @@ fn members_where(
     others: &[&SetValue],
     wanted: bool,
 ) -> Result<Reply, AllocError>
-    ensures { IfOk result (λ r. view r ≡ bulks (filter (is_wanted wanted others.now) (map.keys set.now))) }
+    ensures { IfOk result (λ r.
+        view r ≡ bulks (filter (is_wanted wanted others.now) (map.keys set.now))) }
 {
     let mut replies = Vec::new(alloc);
     for member in set.members() {
@@ -169,7 +176,8 @@ fn agrees(set: &SetValue, member: &[u8], wanted: bool) -> bool
 
 /// The answer of the members of any of the sets, in byte order.
 fn union(alloc: Global, first: &SetValue, others: &[&SetValue]) -> Result<Reply, AllocError>
-    ensures { IfOk result (λ r. view r ≡ bulks (map.keys (of_all operation.Union first.now (members_of others.now)))) }
+    ensures { IfOk result (λ r.
+        view r ≡ bulks (map.keys (of_all operation.Union first.now (members_of others.now)))) }
 {
     let mut members = Joined {
         members: SliceMap::new(alloc),

@@ -9,9 +9,9 @@ ghost use Rattle.mr_cmd_set.specs.Sets.{drawn_reply, taken, taking, first_bulk, 
 
 use crate::grouping::{Write, push_groups, push_member};
 use mr_arguments::Argument;
+use mr_cmd_shared::{Effects, bulk};
 use mr_map::SliceMap;
 use mr_resp::Reply;
-use mr_room::{Effects, bulk};
 use mr_value::{Members, SetValue};
 use std::alloc::{AllocError, Global};
 
@@ -43,7 +43,8 @@ struct Drawn<'d> {
 impl<'d> Drawn<'d> {
     /// Puts the next members behind those that were drawn, at most so many.
     fn extend(&mut self, members: Members<'d>, count: usize) -> Result<(), AllocError>
-        ensures { OnOk result (texts self.new.items.items ≡ texts self.old.items.items ++ take count members.entry) }
+        ensures { OnOk result (texts self.new.items.items ≡
+            texts self.old.items.items ++ take count members.entry) }
     {
         let mut members = members;
         for _ in 0..count {
@@ -134,7 +135,8 @@ pub fn spop(
     set: &SetValue,
     effects: &mut Effects,
 ) -> Result<Reply, AllocError>
-    ensures { IfOk result (λ r. Makes (taking key.now count word set.now) (view r) effects.old effects.new) }
+    ensures { IfOk result (λ r.
+        Makes (taking key.now count word set.now) (view r) effects.old effects.new) }
 {
     match count {
         None => take_one(alloc, key, word, set, effects),
@@ -151,7 +153,9 @@ fn take_one(
     effects: &mut Effects,
 ) -> Result<Reply, AllocError>
     ensures reply { IfOk result (λ r. view r ≡ first_bulk (drawn word 1 (map.keys set.now))) }
-    ensures effects { OnOk result (effects.new ≡ effects.old ++ group_effects write.Remove key.now (as_set (drawn word 1 (map.keys set.now)))) }
+    ensures effects { OnOk result (effects.new ≡
+        effects.old ++
+        group_effects write.Remove key.now (as_set (drawn word 1 (map.keys set.now)))) }
 {
     let Some(member) = draw_one(set, word) else {
         return Ok(Reply::NullBulk);
@@ -171,7 +175,9 @@ fn take_some(
     effects: &mut Effects,
 ) -> Result<Reply, AllocError>
     ensures reply { IfOk result (λ r. view r ≡ bulks (drawn word count (map.keys set.now))) }
-    ensures effects { OnOk result (effects.new ≡ effects.old ++ group_effects write.Remove key.now (as_set (drawn word count (map.keys set.now)))) }
+    ensures effects { OnOk result (effects.new ≡
+        effects.old ++
+        group_effects write.Remove key.now (as_set (drawn word count (map.keys set.now)))) }
 {
     let drawn = draw(alloc, set, word, count)?;
     let members = in_order(alloc, drawn.items.as_slice())?;

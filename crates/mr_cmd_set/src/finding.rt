@@ -1,7 +1,7 @@
 // The set that a command finds.
 ghost use Rattle.std.specs.Prelude.{◌≡◌, option_copied};
 ghost use Rattle.std.specs.FinMap as map;
-ghost use Rattle.mr_entries.specs.Steps.{sets, held};
+ghost use Rattle.mr_keyspace.specs.Steps.{sets, held};
 
 use mr_data::{Entry, Value};
 use mr_value::SetValue;

@@ -7,10 +7,10 @@ ghost use Rattle.mr_cmd_set.specs.Grouping.{changed_by, changes, group_effect, g
 
 use mr_arguments::{Argument, Words};
 use mr_bytes::Word;
+use mr_cmd_shared::{Effects, count};
 use mr_data::{Effect, EffectWords};
 use mr_map::SliceMap;
 use mr_resp::Reply;
-use mr_room::{Effects, count};
 use mr_value::SetValue;
 use std::alloc::{AllocError, Global};
 
@@ -63,8 +63,10 @@ pub fn write_members(
     set: &SetValue,
     effects: &mut Effects,
 ) -> Result<Reply, AllocError>
-    ensures reply { IfOk result (λ r. view r ≡ number (len (changed_by write words.now set.now))) }
-    ensures effects { OnOk result (effects.new ≡ effects.old ++ group_effects write key.now (changed_by write words.now set.now)) }
+    ensures reply { IfOk result (λ r.
+        view r ≡ number (len (changed_by write words.now set.now))) }
+    ensures effects { OnOk result (effects.new ≡
+        effects.old ++ group_effects write key.now (changed_by write words.now set.now)) }
 {
     let changed = push_changes(alloc, write, key, words, set, effects)?;
     Ok(count(changed))
@@ -81,7 +83,8 @@ fn push_changes(
 ) -> Result<usize, AllocError>
     ensures changed { IfOk result (λ n. n ≡ len (changed_by write words.now set.now)) }
     ensures small { IfOk result (λ n. n < 2 ^ 63) }
-    ensures effects { OnOk result (effects.new ≡ effects.old ++ group_effects write key.now (changed_by write words.now set.now)) }
+    ensures effects { OnOk result (effects.new ≡
+        effects.old ++ group_effects write key.now (changed_by write words.now set.now)) }
 {
     if let [word] = words.as_slice() {
         return push_change(alloc, write, key, word.as_slice(), set, effects);
@@ -102,7 +105,8 @@ fn push_change(
 ) -> Result<usize, AllocError>
     ensures changed { IfOk result (λ n. n ≡ len (changed_by write (member.now ∷ []) set.now)) }
     ensures small { IfOk result (λ n. n < 2 ^ 63) }
-    ensures effects { OnOk result (effects.new ≡ effects.old ++ group_effects write key.now (changed_by write (member.now ∷ []) set.now)) }
+    ensures effects { OnOk result (effects.new ≡
+        effects.old ++ group_effects write key.now (changed_by write (member.now ∷ []) set.now)) }
 {
     if !changes(write, set, member) {
         return Ok(0);
@@ -119,7 +123,8 @@ pub fn push_member(
     member: &[u8],
     effects: &mut Effects,
 ) -> Result<(), AllocError>
-    ensures { OnOk result (effects.new ≡ effects.old ++ group_effect write key.now (member.now ∷ []) ∷ []) }
+    ensures { OnOk result (effects.new ≡
+        effects.old ++ group_effect write key.now (member.now ∷ []) ∷ []) }
 {
     let mut members = EffectWords::new(alloc);
     members.push(Word::copied(alloc, member)?)?;

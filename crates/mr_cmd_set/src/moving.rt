@@ -3,15 +3,15 @@ ghost use Rattle.std.specs.Prelude.{◌≡◌, IfOk, option_copied};
 ghost use Rattle.std.specs.FinMap.{get};
 ghost use Rattle.std.specs.Str.{bytes_eq};
 ghost use Rattle.mr_resp.specs.ReplyView.{view};
-ghost use Rattle.mr_entries.specs.Dataset.{Dataset as Map};
+ghost use Rattle.mr_keyspace.specs.Dataset.{Dataset as Map};
 ghost use Rattle.mr_cmd_set.specs.Moving.{smove, Gives};
 
 use crate::finding::set_at;
 use mr_arguments::Argument;
 use mr_bytes::Word;
+use mr_cmd_shared::{Effects, count, wrong_kind};
 use mr_data::{Effect, Entry};
 use mr_resp::Reply;
-use mr_room::{Effects, count, wrong_kind};
 use mr_value::SetValue;
 use std::alloc::{AllocError, Global};
 
@@ -25,7 +25,9 @@ pub fn moved(
     target: Option<&Entry>,
     effects: &mut Effects,
 ) -> Result<Reply, AllocError>
-    ensures { IfOk result (λ r. (m : Map) → get m from.now ≡ option_copied source.entry → get m to.now ≡ option_copied target.entry → Gives (smove from.now to.now member.now m) (view r) effects.old effects.new) }
+    ensures { IfOk result (λ r. (m : Map) → get m from.now ≡ option_copied source.entry →
+        get m to.now ≡ option_copied target.entry →
+        Gives (smove from.now to.now member.now m) (view r) effects.old effects.new) }
 {
     if source.is_none() {
         return Ok(count(0));

@@ -4,11 +4,11 @@ ghost use Rattle.std.specs.List.{list_all};
 ghost use Rattle.mr_bytes.specs.Words.{fits};
 ghost use Rattle.mr_resp.specs.ReplyView.{view};
 ghost use Rattle.mr_data.specs.Dataset.{IsDataset};
-ghost use Rattle.mr_entries.specs.Steps.{sets};
+ghost use Rattle.mr_keyspace.specs.Steps.{sets};
 ghost use Rattle.mr_cmd_set.specs.Carried.{set_words};
 ghost use Rattle.mr_cmd_set.specs.declared.set_ask.SetAsk.TheVariants as asks;
-ghost use Rattle.mr_room.specs.Collections.{changing};
-ghost use Rattle.mr_room.specs.Commands.{on_key, IsPlan, Plans, IsFaithful, HasCommandTexts};
+ghost use Rattle.mr_cmd_shared.specs.Collections.{changing};
+ghost use Rattle.mr_cmd_shared.specs.Commands.{on_key, IsPlan, Plans, IsFaithful, HasCommandTexts};
 ghost use Rattle.mr_cmd_set.specs.Sets.{Makes};
 ghost use Rattle.mr_cmd_set.specs.SetCommands.{command, RestsOn, is_on_one_key, change};
 
@@ -19,9 +19,9 @@ use crate::moving::{moved, same};
 use crate::set_ask::{SetAsk, SetOperation};
 use crate::{drawing, telling};
 use mr_arguments::{Argument, Words};
+use mr_cmd_shared::{Effects, look, wrong_kind};
 use mr_data::{Dataset, Given, Plan};
 use mr_resp::Reply;
-use mr_room::{Effects, look, wrong_kind};
 use mr_value::SetValue;
 use std::alloc::{AllocError, Global};
 
@@ -32,13 +32,16 @@ pub fn plan(
     ask: &SetAsk<'_, '_>,
     given: Given,
 ) -> Result<Plan, AllocError>
-    ensures plan { IfOk result (λ p. IsPlan (command ask.now given.word) given.now held.now (view p.reply) p.effects.items) }
+    ensures plan { IfOk result (λ p.
+        IsPlan (command ask.now given.word) given.now held.now (view p.reply) p.effects.items) }
 
     // The effects lead to what the command leaves, and its own ones are there exactly where it changes something.
-    ensures faithful { IsTrue (list_all fits (set_words ask.now)) → IsFaithful (command ask.now given.word) given.now held.now }
+    ensures faithful { IsTrue (list_all fits (set_words ask.now)) →
+        IsFaithful (command ask.now given.word) given.now held.now }
 
     // .. and their texts are command texts.
-    ensures texts { IsTrue (list_all fits (set_words ask.now)) → HasCommandTexts (command ask.now given.word) given.now held.now }
+    ensures texts { IsTrue (list_all fits (set_words ask.now)) →
+        HasCommandTexts (command ask.now given.word) given.now held.now }
 {
     planned(alloc, held, ask, given)
 }
@@ -51,7 +54,8 @@ fn planned(
     ask: &SetAsk<'_, '_>,
     given: Given,
 ) -> Result<Plan, AllocError>
-    ensures plan { IfOk result (λ p. IsPlan (command ask.now given.word) given.now held.now (view p.reply) p.effects.items) }
+    ensures plan { IfOk result (λ p.
+        IsPlan (command ask.now given.word) given.now held.now (view p.reply) p.effects.items) }
     ensures rests { RestsOn ask.now held.now }
 {
     let mut effects = Effects::new(alloc);
@@ -67,7 +71,8 @@ fn reply_to(
     given: Given,
     effects: &mut Effects,
 ) -> Result<Reply, AllocError>
-    ensures reply { IfOk result (λ r. Plans (command ask.now given.word) given.now held.now (view r) effects.old effects.new) }
+    ensures reply { IfOk result (λ r.
+        Plans (command ask.now given.word) given.now held.now (view r) effects.old effects.new) }
     ensures rests { RestsOn ask.now held.now }
 {
     match ask {
@@ -98,7 +103,9 @@ fn at_key(
     effects: &mut Effects,
 ) -> Result<Reply, AllocError>
     requires { is_on_one_key ask.now ≡ true }
-    ensures reply { IfOk result (λ r. Plans (on_key key.now (changing sets (change ask.now given.word))) given.now held.now (view r) effects.old effects.new) }
+    ensures reply { IfOk result (λ r.
+        Plans (on_key key.now (changing sets (change ask.now given.word))) given.now held.now
+        (view r) effects.old effects.new) }
     ensures kept { IsDataset held.now }
 {
     let live_entry = look(alloc, held, key, given, effects)?;
@@ -119,7 +126,8 @@ fn change(
     effects: &mut Effects,
 ) -> Result<Reply, AllocError>
     requires { is_on_one_key ask.now ≡ true }
-    ensures { IfOk result (λ r. Makes (change ask.now word set.now) (view r) effects.old effects.new) }
+    ensures { IfOk result (λ r.
+        Makes (change ask.now word set.now) (view r) effects.old effects.new) }
 {
     match ask {
         SetAsk::SAdd { key, members } => {
@@ -148,7 +156,9 @@ fn smove(
     given: Given,
     effects: &mut Effects,
 ) -> Result<Reply, AllocError>
-    ensures reply { IfOk result (λ r. Plans (command (asks.SMove from.now to.now member.now) given.word) given.now held.now (view r) effects.old effects.new) }
+    ensures reply { IfOk result (λ r.
+        Plans (command (asks.SMove from.now to.now member.now) given.word) given.now held.now
+        (view r) effects.old effects.new) }
     ensures kept { IsDataset held.now }
 {
     let source = look(alloc, held, from, given, effects)?;
@@ -170,7 +180,9 @@ fn combine(
     given: Given,
     effects: &mut Effects,
 ) -> Result<Reply, AllocError>
-    ensures reply { IfOk result (λ r. Plans (command (asks.Combine operation keys.now) given.word) given.now held.now (view r) effects.old effects.new) }
+    ensures reply { IfOk result (λ r.
+        Plans (command (asks.Combine operation keys.now) given.word) given.now held.now (view r)
+        effects.old effects.new) }
 {
     let empty = SetValue::new(alloc);
     match look_at_all(alloc, held, keys, given, &empty, effects)? {

@@ -5,8 +5,8 @@ ghost use Rattle.mr_resp.specs.ReplyView.{view};
 ghost use Rattle.mr_cmd_set.specs.Sets.{number, flag, flags, bulks};
 
 use mr_arguments::{Argument, Words};
+use mr_cmd_shared::{bulk, count};
 use mr_resp::Reply;
-use mr_room::{bulk, count};
 use mr_value::SetValue;
 use std::alloc::{AllocError, Global};
 

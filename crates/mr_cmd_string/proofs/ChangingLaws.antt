@@ -16,16 +16,16 @@ use Rattle.mr_resp.specs.Replies.{Tree}
 use Rattle.mr_effect.specs.Effects.{is_place}
 use Rattle.mr_effect.specs.declared.effect.Effect.{Effect}
 use Rattle.mr_effect.specs.declared.effect.Effect.TheVariants as effect
-use Rattle.mr_entries.specs.Dataset.{Dataset, put_at}
-use Rattle.mr_entries.specs.Texts.{fitting}
-use Rattle.mr_entries.specs.Steps.{texts as strings, held, on, same, entry_of, deadline_of, append_step, set_range_step, increase_step}
-use Rattle.mr_entries.specs.Changes.{change}
+use Rattle.mr_keyspace.specs.Dataset.{Dataset, put_at}
+use Rattle.mr_keyspace.specs.Texts.{fitting}
+use Rattle.mr_keyspace.specs.Steps.{texts as strings, held, on, same, entry_of, deadline_of, append_step, set_range_step, increase_step}
+use Rattle.mr_keyspace.specs.Changes.{change}
 use Rattle.mr_data.specs.Meaning.{apply, apply_all}
-use Rattle.mr_entries.specs.declared.value.Value.TheVariants as value
-use Rattle.mr_entries.specs.declared.value.Entry.{Entry}
-use Rattle.mr_entries.proofs.Puts.{put_same}
+use Rattle.mr_keyspace.specs.declared.value.Value.TheVariants as value
+use Rattle.mr_keyspace.specs.declared.value.Entry.{Entry}
+use Rattle.mr_keyspace.proofs.Puts.{put_same}
 use Rattle.mr_data.proofs.Running.{one_step}
-use Rattle.mr_room.proofs.Laws.{IsFaithfulAnswer, stays_faithful, none_short, one_short}
+use Rattle.mr_cmd_shared.proofs.Laws.{IsFaithfulAnswer, stays_faithful, none_short, one_short}
 use Rattle.mr_cmd_string.specs.Changing.{holds, rewritten, length_of, too_long, lengthened, appended, append_answer, put_over, setrange_answer, overflow, increase_from, increase_text, increase_answer}
 use Rattle.mr_cmd_string.proofs.SameTexts.{is_this_text, bytes_itself, both}
 use Rattle.mr_effect.proofs.Texts.{short_effect}

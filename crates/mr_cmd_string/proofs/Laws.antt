@@ -10,15 +10,15 @@ use Rattle.mr_bytes.specs.Words.{fits}
 use Rattle.mr_resp.specs.Replies as reply
 use Rattle.mr_resp.specs.Replies.{Tree}
 use Rattle.mr_resp.specs.ReplyView.{trees_of}
-use Rattle.mr_entries.specs.Dataset.{Dataset, put_at}
-use Rattle.mr_entries.specs.Changes.{change}
+use Rattle.mr_keyspace.specs.Dataset.{Dataset, put_at}
+use Rattle.mr_keyspace.specs.Changes.{change}
 use Rattle.mr_data.specs.Meaning.{apply, apply_all}
-use Rattle.mr_entries.specs.declared.value.Entry.{Entry}
-use Rattle.mr_entries.specs.declared.value.Value.{Value}
-use Rattle.mr_entries.specs.declared.value.Value.TheVariants as value
+use Rattle.mr_keyspace.specs.declared.value.Entry.{Entry}
+use Rattle.mr_keyspace.specs.declared.value.Value.{Value}
+use Rattle.mr_keyspace.specs.declared.value.Value.TheVariants as value
 use Rattle.mr_effect.specs.declared.effect.Effect.{Effect}
 use Rattle.mr_effect.specs.declared.effect.Effect.TheVariants as effect
-use Rattle.mr_entries.specs.Steps.{deadline_of}
+use Rattle.mr_keyspace.specs.Steps.{deadline_of}
 use Rattle.mr_data.specs.Given.{IsMoment}
 use Rattle.mr_effect.specs.Effects.{is_deadline}
 use Rattle.mr_expiry.specs.Amounts.{is_amount, of_seconds}
@@ -33,10 +33,10 @@ use Rattle.mr_cmd_string.specs.declared.text_ask.TextAsk.TheVariants as ask
 use Rattle.mr_cmd_string.specs.declared.text_ask.SetCondition.{SetCondition}
 use Rattle.mr_cmd_string.specs.declared.text_ask.SetReply.{SetReply}
 use Rattle.mr_cmd_string.specs.declared.text_ask.SetReply.TheVariants as asked
-use Rattle.mr_room.specs.Answered.{Answered, done}
-use Rattle.mr_room.specs.Commands.{IsFaithful, on_key, HasCommandTexts}
-use Rattle.mr_entries.proofs.Puts.{put_same}
-use Rattle.mr_room.proofs.Laws.{IsFaithfulAnswer, kept_faithful, stays_faithful, if_faithful, by_answer, by_telling, keys_answered, IsLawful, none_short, one_short}
+use Rattle.mr_cmd_shared.specs.Answered.{Answered, done}
+use Rattle.mr_cmd_shared.specs.Commands.{IsFaithful, on_key, HasCommandTexts}
+use Rattle.mr_keyspace.proofs.Puts.{put_same}
+use Rattle.mr_cmd_shared.proofs.Laws.{IsFaithfulAnswer, kept_faithful, stays_faithful, if_faithful, by_answer, by_telling, keys_answered, IsLawful, none_short, one_short}
 use Rattle.mr_cmd_string.specs.Texts.{get_reply, strlen_reply, getrange_reply, found}
 use Rattle.mr_cmd_string.specs.Setting.{said_at, until, set_effect, text_until, holds_until, put, plain, allows, holds_other, set_answer, set_for_answer, setnx_answer, getset_answer, taken, getdel_answer}
 use Rattle.mr_cmd_string.specs.declared.deadlines.NewDeadline.{NewDeadline}

@@ -6,13 +6,13 @@ use Rattle.mr_map.specs.Bytes.{Bytes}
 use Rattle.mr_resp.specs.Replies as reply
 use Rattle.mr_resp.specs.Replies.{Tree}
 use Rattle.mr_resp.specs.ReplyView.{trees_of}
-use Rattle.mr_entries.specs.Dataset.{Dataset}
+use Rattle.mr_keyspace.specs.Dataset.{Dataset}
 use Rattle.mr_data.specs.Dataset.{seen}
 use Rattle.mr_data.proofs.Seeing.{get-seen}
 use Rattle.mr_effect.specs.declared.effect.Effect.{Effect}
-use Rattle.mr_room.specs.Keys.{dels, expired}
-use Rattle.mr_room.specs.Commands.{Plans, on_keys}
-use Rattle.mr_room.proofs.PlanLemmas.{on_keys_plans}
+use Rattle.mr_cmd_shared.specs.Keys.{dels, expired}
+use Rattle.mr_cmd_shared.specs.Commands.{Plans, on_keys}
+use Rattle.mr_cmd_shared.proofs.PlanLemmas.{on_keys_plans}
 use Rattle.mr_cmd_string.specs.Texts.{found, texts, texts_at}
 
 -- ---- the texts at several keys

@@ -16,20 +16,20 @@ use Rattle.mr_bytes.specs.Words.{fits}
 use Rattle.mr_resp.specs.Replies as reply
 use Rattle.mr_resp.specs.Replies.{Tree}
 use Rattle.mr_effect.specs.Effects.{pair_fits}
-use Rattle.mr_entries.specs.Dataset.{Dataset}
-use Rattle.mr_entries.specs.Collections.{with_fields}
-use Rattle.mr_entries.specs.Changes.{change, with_texts}
+use Rattle.mr_keyspace.specs.Dataset.{Dataset}
+use Rattle.mr_keyspace.specs.Collections.{with_fields}
+use Rattle.mr_keyspace.specs.Changes.{change, with_texts}
 use Rattle.mr_data.specs.Meaning.{apply, apply_all}
-use Rattle.mr_entries.specs.declared.value.Entry.{Entry}
+use Rattle.mr_keyspace.specs.declared.value.Entry.{Entry}
 use Rattle.mr_data.proofs.Fitting.{no_fields, with_fields_fit}
-use Rattle.mr_entries.proofs.Maps.{insert_same, same_key}
+use Rattle.mr_keyspace.proofs.Maps.{insert_same, same_key}
 use Rattle.mr_arguments.specs.Pairing.{unpaired}
-use Rattle.mr_room.specs.Taken.{is_key}
-use Rattle.mr_room.specs.Answered.{done}
-use Rattle.mr_room.specs.Outcomes.{answered}
-use Rattle.mr_room.specs.Commands.{Command, on_keys, before, IsFaithful, HasCommandTexts}
-use Rattle.mr_entries.proofs.Puts.{is_key_itself, is_key_symm}
-use Rattle.mr_room.proofs.Laws.{answered_faithful, IsLeadingAt, leading_at, leading, sent, none_short, one_short}
+use Rattle.mr_cmd_shared.specs.Taken.{is_key}
+use Rattle.mr_cmd_shared.specs.Answered.{done}
+use Rattle.mr_cmd_shared.specs.Outcomes.{answered}
+use Rattle.mr_cmd_shared.specs.Commands.{Command, on_keys, before, IsFaithful, HasCommandTexts}
+use Rattle.mr_keyspace.proofs.Puts.{is_key_itself, is_key_symm}
+use Rattle.mr_cmd_shared.proofs.Laws.{answered_faithful, IsLeadingAt, leading_at, leading, sent, none_short, one_short}
 use Rattle.mr_cmd_string.specs.Setting.{plain, is_plain}
 use Rattle.mr_cmd_string.specs.SettingAll.{names, last_texts, changed, set_effects, put_all, mset, is_any_there, msetnx}
 use Rattle.mr_cmd_string.specs.Laws.{MSetIsNoLonger, MSetNxIsNoLonger}

@@ -8,19 +8,19 @@ use Rattle.mr_map.specs.Bytes.{Bytes, ByteMap, bytes_cmp}
 use Rattle.mr_resp.specs.Replies as reply
 use Rattle.mr_resp.specs.Replies.{Tree}
 use Rattle.mr_effect.specs.declared.effect.Effect.{Effect}
-use Rattle.mr_entries.specs.Dataset.{Dataset}
+use Rattle.mr_keyspace.specs.Dataset.{Dataset}
 use Rattle.mr_data.specs.Dataset.{live, seen}
-use Rattle.mr_entries.specs.Collections.{with_fields}
-use Rattle.mr_entries.specs.declared.value.Entry.{Entry}
+use Rattle.mr_keyspace.specs.Collections.{with_fields}
+use Rattle.mr_keyspace.specs.declared.value.Entry.{Entry}
 use Rattle.mr_data.proofs.Seeing.{get-seen}
-use Rattle.mr_room.specs.Taken.{is_key, has}
-use Rattle.mr_room.specs.Keys.{chosen, dels, is_stored, expired, purged}
-use Rattle.mr_room.specs.Answered.{done}
-use Rattle.mr_room.specs.Outcomes.{answered}
-use Rattle.mr_room.specs.Commands.{Plans, on_keys}
-use Rattle.mr_entries.proofs.Maps.{same_key}
-use Rattle.mr_entries.proofs.Puts.{is_key_itself}
-use Rattle.mr_room.proofs.KeyLists.{chosen_alike, get_purged}
+use Rattle.mr_cmd_shared.specs.Taken.{is_key, has}
+use Rattle.mr_cmd_shared.specs.Keys.{chosen, dels, is_stored, expired, purged}
+use Rattle.mr_cmd_shared.specs.Answered.{done}
+use Rattle.mr_cmd_shared.specs.Outcomes.{answered}
+use Rattle.mr_cmd_shared.specs.Commands.{Plans, on_keys}
+use Rattle.mr_keyspace.proofs.Maps.{same_key}
+use Rattle.mr_keyspace.proofs.Puts.{is_key_itself}
+use Rattle.mr_cmd_shared.proofs.KeyLists.{chosen_alike, get_purged}
 use Rattle.mr_cmd_string.specs.Setting.{is_plain}
 use Rattle.mr_cmd_string.specs.SettingAll.{names, last_texts, changed, set_effects, put_all, mset, is_any_there, msetnx}
 use Rattle.mr_cmd_string.specs.Finding.{is_any_live, is_any_expired, changed_at}

@@ -18,12 +18,12 @@ use Rattle.mr_resp.specs.Replies as reply
 use Rattle.mr_resp.specs.Replies.{Tree}
 use Rattle.mr_effect.specs.declared.effect.Effect.{Effect}
 use Rattle.mr_effect.specs.declared.effect.Effect.TheVariants as effect
-use Rattle.mr_entries.specs.Steps.{texts as strings, held, text_of}
-use Rattle.mr_entries.specs.declared.value.Value.{Value}
-use Rattle.mr_entries.specs.declared.value.Value.TheVariants as value
-use Rattle.mr_entries.specs.declared.value.Entry.{Entry}
-use Rattle.mr_room.specs.Answered.{Takes}
-use Rattle.mr_room.proofs.PlanLemmas.{takes_reply}
+use Rattle.mr_keyspace.specs.Steps.{texts as strings, held, text_of}
+use Rattle.mr_keyspace.specs.declared.value.Value.{Value}
+use Rattle.mr_keyspace.specs.declared.value.Value.TheVariants as value
+use Rattle.mr_keyspace.specs.declared.value.Entry.{Entry}
+use Rattle.mr_cmd_shared.specs.Answered.{Takes}
+use Rattle.mr_cmd_shared.proofs.PlanLemmas.{takes_reply}
 use Rattle.mr_cmd_string.specs.Setting.{is_text}
 use Rattle.mr_cmd_string.specs.Changing.{holds, rewritten, length_of, too_long, lengthened, put_over, setrange_answer, overflow, increase_from, increase_text, increase_answer}
 use Rattle.mr_cmd_string.proofs.SameTexts.{same_bytes, bytes_itself}

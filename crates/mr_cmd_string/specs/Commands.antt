@@ -1,7 +1,7 @@
 -- The commands on strings.
 use Rattle.std.specs.Prelude.{ℤ, IsTrue}
 use Rattle.mr_bytes.specs.Number.{is_i64}
-use Rattle.mr_room.specs.Commands.{Command, on_key, on_keys}
+use Rattle.mr_cmd_shared.specs.Commands.{Command, on_key, on_keys}
 use Rattle.mr_cmd_string.specs.declared.text_ask.TextAsk.{TextAsk}
 use Rattle.mr_cmd_string.specs.declared.text_ask.TextAsk.TheVariants as ask
 use Rattle.mr_cmd_string.specs.Parts.{amount_number}

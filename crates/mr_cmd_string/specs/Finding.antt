@@ -3,9 +3,9 @@ use Rattle.std.specs.Prelude.{ℤ, List, filter, Bool, true, not, is_some}
 use Rattle.std.specs.List.{list_any}
 use Rattle.std.specs.FinMap.{get}
 use Rattle.mr_map.specs.Bytes.{Bytes}
-use Rattle.mr_entries.specs.Dataset.{Dataset}
+use Rattle.mr_keyspace.specs.Dataset.{Dataset}
 use Rattle.mr_data.specs.Dataset.{live}
-use Rattle.mr_room.specs.Keys.{is_stored}
+use Rattle.mr_cmd_shared.specs.Keys.{is_stored}
 use Rattle.mr_cmd_string.specs.Setting.{is_plain}
 
 -- one of them is there and not expired

@@ -9,9 +9,9 @@ use Rattle.mr_bytes.specs.Words.{fits}
 use Rattle.mr_resp.specs.Replies as reply
 use Rattle.mr_resp.specs.ReplyView.{trees_of}
 use Rattle.mr_effect.specs.Spelling.{arguments}
-use Rattle.mr_entries.specs.Dataset.{Dataset}
-use Rattle.mr_entries.specs.Steps.{texts as strings, held}
-use Rattle.mr_entries.specs.declared.value.Entry.{Entry}
+use Rattle.mr_keyspace.specs.Dataset.{Dataset}
+use Rattle.mr_keyspace.specs.Steps.{texts as strings, held}
+use Rattle.mr_keyspace.specs.declared.value.Entry.{Entry}
 use Rattle.mr_cmd_string.specs.Carried.{text_words}
 use Rattle.mr_cmd_string.specs.declared.text_ask.TextAsk.TheVariants as ask
 use Rattle.mr_cmd_string.specs.SettingAll.{mset, msetnx}

@@ -1,8 +1,8 @@
 -- The commands on strings that are on one key, by what is there.
 use Rattle.std.specs.Prelude.{ℤ, Bool, true, false, Option}
-use Rattle.mr_entries.specs.declared.value.Entry.{Entry}
+use Rattle.mr_keyspace.specs.declared.value.Entry.{Entry}
 use Rattle.mr_expiry.specs.declared.expiry.Expiry.TheVariants.{Seconds, Milliseconds}
-use Rattle.mr_room.specs.Answered.{Answered, kept, done}
+use Rattle.mr_cmd_shared.specs.Answered.{Answered, kept, done}
 use Rattle.mr_cmd_string.specs.declared.text_ask.TextAsk.{TextAsk}
 use Rattle.mr_cmd_string.specs.declared.text_ask.TextAsk.TheVariants as ask
 use Rattle.mr_cmd_string.specs.declared.text_ask.Lifetime.{Lifetime}

@@ -7,11 +7,11 @@ use Rattle.mr_resp.specs.Replies as reply
 use Rattle.mr_resp.specs.Replies.{Tree}
 use Rattle.mr_effect.specs.declared.effect.Effect.{Effect}
 use Rattle.mr_effect.specs.declared.effect.Effect.TheVariants as effect
-use Rattle.mr_entries.specs.Dataset.{Dataset}
-use Rattle.mr_entries.specs.Collections.{with_fields}
-use Rattle.mr_entries.specs.Changes.{with_texts}
-use Rattle.mr_room.specs.Answered.{done}
-use Rattle.mr_room.specs.Outcomes.{Outcome, answered}
+use Rattle.mr_keyspace.specs.Dataset.{Dataset}
+use Rattle.mr_keyspace.specs.Collections.{with_fields}
+use Rattle.mr_keyspace.specs.Changes.{with_texts}
+use Rattle.mr_cmd_shared.specs.Answered.{done}
+use Rattle.mr_cmd_shared.specs.Outcomes.{Outcome, answered}
 use Rattle.mr_cmd_string.specs.Setting.{is_plain}
 
 -- the keys that pairs name

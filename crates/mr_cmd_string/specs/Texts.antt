@@ -6,13 +6,13 @@ use Rattle.mr_bytes.specs.Window.{window_of, windowed}
 use Rattle.mr_resp.specs.Replies as reply
 use Rattle.mr_resp.specs.Replies.{Tree}
 use Rattle.mr_resp.specs.ReplyView.{trees_of}
-use Rattle.mr_entries.specs.Dataset.{Dataset}
+use Rattle.mr_keyspace.specs.Dataset.{Dataset}
 use Rattle.mr_data.specs.Dataset.{live}
-use Rattle.mr_entries.specs.declared.value.Value.{Value}
-use Rattle.mr_entries.specs.declared.value.Value.TheVariants as value
-use Rattle.mr_entries.specs.declared.value.Entry.{Entry}
-use Rattle.mr_room.specs.Answered.{Answered, kept, wrong_kind}
-use Rattle.mr_room.specs.Outcomes.{Outcome, answered}
+use Rattle.mr_keyspace.specs.declared.value.Value.{Value}
+use Rattle.mr_keyspace.specs.declared.value.Value.TheVariants as value
+use Rattle.mr_keyspace.specs.declared.value.Entry.{Entry}
+use Rattle.mr_cmd_shared.specs.Answered.{Answered, kept, wrong_kind}
+use Rattle.mr_cmd_shared.specs.Outcomes.{Outcome, answered}
 
 -- ---- What a command tells of the text at a key. A value of another kind is refused.
 abbrev pub of_value : (Bytes → Tree) → Value → Tree

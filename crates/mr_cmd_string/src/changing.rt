@@ -4,16 +4,16 @@ ghost use Rattle.std.specs.Ordering.{int_eq};
 ghost use Rattle.std.specs.Str.{bytes_eq};
 ghost use Rattle.mr_resp.specs.ReplyView.{view};
 ghost use Rattle.mr_bytes.specs.Texts.{overwritten};
-ghost use Rattle.mr_entries.specs.Steps.{texts as strings, held};
-ghost use Rattle.mr_room.specs.Answered.{Takes};
+ghost use Rattle.mr_keyspace.specs.Steps.{texts as strings, held};
+ghost use Rattle.mr_cmd_shared.specs.Answered.{Takes};
 ghost use Rattle.mr_cmd_string.specs.Changing.{append_answer, setrange_answer, increase_answer};
 
 use crate::replies::{no_integer, overflow, too_long};
 use mr_arguments::Argument;
 use mr_bytes::{Word, read_i64};
+use mr_cmd_shared::{Effects, count, integer, wrong_kind};
 use mr_data::{Effect, Entry, Value};
 use mr_resp::Reply;
-use mr_room::{Effects, count, integer, wrong_kind};
 use mr_value::CompactBytes;
 use std::alloc::{AllocError, Global};
 
@@ -38,7 +38,9 @@ pub fn append(
     live_entry: Option<&Entry>,
     effects: &mut Effects,
 ) -> Result<Reply, AllocError>
-    ensures { IfOk result (λ r. Takes (append_answer key.now more.now (option_copied live_entry.entry)) (view r) effects.old effects.new) }
+    ensures { IfOk result (λ r.
+        Takes (append_answer key.now more.now (option_copied live_entry.entry)) (view r) effects.old
+        effects.new) }
 {
     let none = CompactBytes::new();
     let Some(text) = text_at(&none, live_entry) else {
@@ -73,7 +75,9 @@ pub fn setrange(
     live_entry: Option<&Entry>,
     effects: &mut Effects,
 ) -> Result<Reply, AllocError>
-    ensures { IfOk result (λ r. Takes (setrange_answer key.now offset part.now (option_copied live_entry.entry)) (view r) effects.old effects.new) }
+    ensures { IfOk result (λ r.
+        Takes (setrange_answer key.now offset part.now (option_copied live_entry.entry)) (view r)
+        effects.old effects.new) }
 {
     let none = CompactBytes::new();
     let Some(text) = text_at(&none, live_entry) else {
@@ -143,7 +147,9 @@ pub fn increase(
     live_entry: Option<&Entry>,
     effects: &mut Effects,
 ) -> Result<Reply, AllocError>
-    ensures { IfOk result (λ r. Takes (increase_answer key.now by (option_copied live_entry.entry)) (view r) effects.old effects.new) }
+    ensures { IfOk result (λ r.
+        Takes (increase_answer key.now by (option_copied live_entry.entry)) (view r) effects.old
+        effects.new) }
 {
     let Some(text) = number_text(live_entry) else {
         return Ok(wrong_kind());

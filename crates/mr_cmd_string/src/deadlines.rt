@@ -1,6 +1,6 @@
 // What becomes of deadlines.
 ghost use Rattle.std.specs.Prelude.{◌≡◌, IfOk, option_copied};
-ghost use Rattle.mr_entries.specs.Steps.{deadline_of};
+ghost use Rattle.mr_keyspace.specs.Steps.{deadline_of};
 ghost use Rattle.mr_cmd_string.specs.Setting.{said_at, until, set_effect, is_same};
 
 use crate::text_ask::Lifetime;

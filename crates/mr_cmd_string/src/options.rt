@@ -147,9 +147,13 @@ impl<'a> SetOptions<'a> {
         word: &CowSlice<'_, u8>,
         after: Arguments<'a, 't>,
     ) -> Result<(SetOptions<'a>, Arguments<'a, 't>), AskFault>
-        ensures ok { IfOk result (λ step. set_options step.0 (map cow_slice_items step.1.now) ≡ set_options self.entry (cow_slice_items word.now ∷ map cow_slice_items after.now)) }
+        ensures ok { IfOk result (λ step.
+            set_options step.0 (map cow_slice_items step.1.now) ≡
+            set_options self.entry (cow_slice_items word.now ∷ map cow_slice_items after.now)) }
         ensures shorter { IfOk result (λ step. length step.1.now ≤ length after.now) }
-        ensures err { IfErr result (λ fault. set_options self.entry (cow_slice_items word.now ∷ map cow_slice_items after.now) ≡ Err fault) }
+        ensures err { IfErr result (λ fault.
+            set_options self.entry (cow_slice_items word.now ∷ map cow_slice_items after.now) ≡
+            Err fault) }
     {
         let Some(unit) = unit_of(word.as_slice()) else {
             let option = SetOption::of(word.as_slice()).ok_or(AskFault::Syntax)?;
@@ -165,9 +169,12 @@ impl<'a> SetOptions<'a> {
         unit: ExpiryUnit,
         words: Arguments<'a, 't>,
     ) -> Result<(SetOptions<'a>, Arguments<'a, 't>), AskFault>
-        ensures ok { IfOk result (λ step. set_options step.0 (map cow_slice_items step.1.now) ≡ number_then self.entry (Some unit) (map cow_slice_items words.now)) }
+        ensures ok { IfOk result (λ step.
+            set_options step.0 (map cow_slice_items step.1.now) ≡
+            number_then self.entry (Some unit) (map cow_slice_items words.now)) }
         ensures shorter { IfOk result (λ step. length step.1.now ≤ length words.now) }
-        ensures err { IfErr result (λ fault. number_then self.entry (Some unit) (map cow_slice_items words.now) ≡ Err fault) }
+        ensures err { IfErr result (λ fault.
+            number_then self.entry (Some unit) (map cow_slice_items words.now) ≡ Err fault) }
     {
         match words {
             [number, behind @ ..] => {

@@ -6,8 +6,8 @@ ghost use Rattle.mr_resp.specs.ReplyView.{view};
 ghost use Rattle.mr_resp.specs.Usual.{commands};
 ghost use Rattle.mr_data.specs.Given.{IsMoment};
 ghost use Rattle.mr_cmd_string.specs.Carried.{text_words, IsTimed};
-ghost use Rattle.mr_room.specs.Answered.{Takes};
-ghost use Rattle.mr_room.specs.Commands.{IsPlan, Plans, IsFaithful, HasCommandTexts, on_key};
+ghost use Rattle.mr_cmd_shared.specs.Answered.{Takes};
+ghost use Rattle.mr_cmd_shared.specs.Commands.{IsPlan, Plans, IsFaithful, HasCommandTexts, on_key};
 ghost use Rattle.mr_cmd_string.specs.Commands.{command, HasNumber, HasLimit};
 ghost use Rattle.mr_cmd_string.specs.OneKey.{is_on_one_key, lifetime_of, answer_of};
 
@@ -17,10 +17,10 @@ use crate::setting_all::{mset, msetnx};
 use crate::text_ask::{Lifetime, SetReply, TextAsk};
 use crate::texts::{get, getrange, mget, strlen};
 use mr_arguments::Argument;
+use mr_cmd_shared::{Effects, look};
 use mr_data::{Dataset, Entry, Given, Plan};
 use mr_expiry::Expiry;
 use mr_resp::Reply;
-use mr_room::{Effects, look};
 use std::alloc::{AllocError, Global};
 
 /// What a command on strings is answered, and its effects. The dataset isn't changed, and the plan owns what it holds.
@@ -34,13 +34,17 @@ pub fn plan(
     ask: &TextAsk<'_, '_>,
     given: Given,
 ) -> Result<Plan, AllocError>
-    ensures plan { IfOk result (λ p. IsPlan (command ask.now given.now) given.now held.now (view p.reply) p.effects.items) }
+    ensures plan { IfOk result (λ p.
+        IsPlan (command ask.now given.now) given.now held.now (view p.reply) p.effects.items) }
 
     // The effects lead to what the command leaves, and its own ones are there exactly where it changes something.
-    ensures faithful { IsTrue (list_all fits (text_words ask.now)) → IsTimed ask.now → IsFaithful (command ask.now given.now) given.now held.now }
+    ensures faithful { IsTrue (list_all fits (text_words ask.now)) → IsTimed ask.now →
+        IsFaithful (command ask.now given.now) given.now held.now }
 
     // .. and their texts are command texts. (MSET's effect has as many words as its request at most.)
-    ensures texts { IsTrue (list_all fits (text_words ask.now)) → IsTimed ask.now → length (text_words ask.now) < commands.words → HasCommandTexts (command ask.now given.now) given.now held.now }
+    ensures texts { IsTrue (list_all fits (text_words ask.now)) → IsTimed ask.now →
+        length (text_words ask.now) < commands.words →
+        HasCommandTexts (command ask.now given.now) given.now held.now }
 {
     numbers_are_limited(ask, given);
     planned(alloc, held, ask, given)
@@ -80,7 +84,8 @@ fn planned(
     ask: &TextAsk<'_, '_>,
     given: Given,
 ) -> Result<Plan, AllocError>
-    ensures { IfOk result (λ p. IsPlan (command ask.now given.now) given.now held.now (view p.reply) p.effects.items) }
+    ensures { IfOk result (λ p.
+        IsPlan (command ask.now given.now) given.now held.now (view p.reply) p.effects.items) }
 {
     let mut effects = Effects::new(alloc);
     let reply = reply_to(alloc, held, ask, given, &mut effects)?;
@@ -95,7 +100,8 @@ fn reply_to(
     given: Given,
     effects: &mut Effects,
 ) -> Result<Reply, AllocError>
-    ensures { IfOk result (λ r. Plans (command ask.now given.now) given.now held.now (view r) effects.old effects.new) }
+    ensures { IfOk result (λ r.
+        Plans (command ask.now given.now) given.now held.now (view r) effects.old effects.new) }
 {
     match ask {
         TextAsk::Get { key }
@@ -126,7 +132,9 @@ fn at_key(
     effects: &mut Effects,
 ) -> Result<Reply, AllocError>
     requires { IsTrue (is_on_one_key ask.now) }
-    ensures { IfOk result (λ r. Plans (on_key key.now (answer_of ask.now given.now)) given.now held.now (view r) effects.old effects.new) }
+    ensures { IfOk result (λ r.
+        Plans (on_key key.now (answer_of ask.now given.now)) given.now held.now (view r) effects.old
+        effects.new) }
 {
     let live_entry = look(alloc, held, key, given, effects)?;
     answer_of(alloc, ask, live_entry, given, effects)
@@ -141,7 +149,9 @@ fn answer_of(
     effects: &mut Effects,
 ) -> Result<Reply, AllocError>
     requires { IsTrue (is_on_one_key ask.now) }
-    ensures { IfOk result (λ r. Takes (answer_of ask.now given.now (option_copied live_entry.entry)) (view r) effects.old effects.new) }
+    ensures { IfOk result (λ r.
+        Takes (answer_of ask.now given.now (option_copied live_entry.entry)) (view r) effects.old
+        effects.new) }
 {
     match ask {
         TextAsk::Get { .. } => get(alloc, live_entry),

@@ -3,7 +3,7 @@ ghost use Rattle.std.specs.Prelude.{◌≡◌, [], ◌∷◌, ◌++◌, IfOk, On
 ghost use Rattle.mr_resp.specs.Replies.{bytes};
 ghost use Rattle.mr_resp.specs.ReplyView.{view};
 ghost use Rattle.mr_effect.specs.declared.effect.Effect.TheVariants as effect;
-ghost use Rattle.mr_room.specs.Answered.{Takes};
+ghost use Rattle.mr_cmd_shared.specs.Answered.{Takes};
 ghost use Rattle.mr_cmd_string.specs.declared.text_ask.SetReply.TheVariants as asked;
 ghost use Rattle.mr_cmd_string.specs.Setting.{said_at, put, set_answer, setnx_answer, getset_answer, getdel_answer, allows, is_text, is_plain, holds_until, is_other, holds_other};
 
@@ -12,9 +12,9 @@ use crate::text_ask::{Lifetime, SetCondition, SetReply};
 use crate::texts::get;
 use mr_arguments::Argument;
 use mr_bytes::Word;
+use mr_cmd_shared::{Effects, bulk, count, done, wrong_kind};
 use mr_data::{Effect, Entry, Given, Value};
 use mr_resp::Reply;
-use mr_room::{Effects, bulk, count, done, wrong_kind};
 use std::alloc::{AllocError, Global};
 
 /// What a `SET` is told besides its key and its text.
@@ -33,7 +33,8 @@ impl SetRules {
         lifetime: Lifetime,
         given: Given,
     ) -> SetRules
-        ensures { result ≡ record { condition = condition; reply = reply; deadline = said_at given.now lifetime } }
+        ensures { result ≡
+            record { condition = condition; reply = reply; deadline = said_at given.now lifetime } }
     {
         SetRules {
             condition,
@@ -52,7 +53,9 @@ pub fn set(
     live_entry: Option<&Entry>,
     effects: &mut Effects,
 ) -> Result<Reply, AllocError>
-    ensures { IfOk result (λ r. Takes (set_answer key.now text.now rules.condition rules.reply rules.deadline (option_copied live_entry.entry)) (view r) effects.old effects.new) }
+    ensures { IfOk result (λ r.
+        Takes (set_answer key.now text.now rules.condition rules.reply rules.deadline
+        (option_copied live_entry.entry)) (view r) effects.old effects.new) }
 {
     match rules.reply {
         SetReply::Done => set_and_say(alloc, key, text, rules, live_entry, effects),
@@ -69,7 +72,9 @@ fn set_and_say(
     live_entry: Option<&Entry>,
     effects: &mut Effects,
 ) -> Result<Reply, AllocError>
-    ensures { IfOk result (λ r. Takes (set_answer key.now text.now rules.condition asked.Done rules.deadline (option_copied live_entry.entry)) (view r) effects.old effects.new) }
+    ensures { IfOk result (λ r.
+        Takes (set_answer key.now text.now rules.condition asked.Done rules.deadline
+        (option_copied live_entry.entry)) (view r) effects.old effects.new) }
 {
     if !allows(rules.condition, live_entry) {
         return Ok(Reply::NullBulk);
@@ -95,7 +100,9 @@ fn set_and_get(
     live_entry: Option<&Entry>,
     effects: &mut Effects,
 ) -> Result<Reply, AllocError>
-    ensures { IfOk result (λ r. Takes (set_answer key.now text.now rules.condition asked.Before rules.deadline (option_copied live_entry.entry)) (view r) effects.old effects.new) }
+    ensures { IfOk result (λ r.
+        Takes (set_answer key.now text.now rules.condition asked.Before rules.deadline
+        (option_copied live_entry.entry)) (view r) effects.old effects.new) }
 {
     if holds_other(live_entry) {
         return Ok(wrong_kind());
@@ -123,7 +130,9 @@ pub fn setnx(
     live_entry: Option<&Entry>,
     effects: &mut Effects,
 ) -> Result<Reply, AllocError>
-    ensures { IfOk result (λ r. Takes (setnx_answer key.now text.now (option_copied live_entry.entry)) (view r) effects.old effects.new) }
+    ensures { IfOk result (λ r.
+        Takes (setnx_answer key.now text.now (option_copied live_entry.entry)) (view r) effects.old
+        effects.new) }
 {
     if live_entry.is_some() {
         return Ok(count(0));
@@ -147,7 +156,9 @@ pub fn getset(
     live_entry: Option<&Entry>,
     effects: &mut Effects,
 ) -> Result<Reply, AllocError>
-    ensures { IfOk result (λ r. Takes (getset_answer key.now text.now (option_copied live_entry.entry)) (view r) effects.old effects.new) }
+    ensures { IfOk result (λ r.
+        Takes (getset_answer key.now text.now (option_copied live_entry.entry)) (view r) effects.old
+        effects.new) }
 {
     let rules = SetRules {
         condition: None,
@@ -164,7 +175,9 @@ pub fn getdel(
     live_entry: Option<&Entry>,
     effects: &mut Effects,
 ) -> Result<Reply, AllocError>
-    ensures { IfOk result (λ r. Takes (getdel_answer key.now (option_copied live_entry.entry)) (view r) effects.old effects.new) }
+    ensures { IfOk result (λ r.
+        Takes (getdel_answer key.now (option_copied live_entry.entry)) (view r) effects.old
+        effects.new) }
 {
     let Some(entry) = live_entry else {
         return Ok(Reply::NullBulk);
@@ -203,7 +216,9 @@ fn put(
     live_entry: Option<&Entry>,
     effects: &mut Effects,
 ) -> Result<Reply, AllocError>
-    ensures { IfOk result (λ r. Takes (put key.now text.now deadline (view reply) (option_copied live_entry.entry)) (view r) effects.old effects.new) }
+    ensures { IfOk result (λ r.
+        Takes (put key.now text.now deadline (view reply) (option_copied live_entry.entry)) (view r)
+        effects.old effects.new) }
 {
     if !holds_until(text.as_slice(), deadline.until(live_entry), live_entry) {
         effects.push(deadline.effect(alloc, key, text)?)?;

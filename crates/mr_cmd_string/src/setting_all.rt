@@ -2,18 +2,18 @@
 ghost use Rattle.std.specs.Prelude.{◌≡◌, ◌++◌, map, IfOk, OnOk};
 ghost use Rattle.std.specs.FinMap.{entries};
 ghost use Rattle.mr_resp.specs.ReplyView.{view};
-ghost use Rattle.mr_room.specs.Keys.{dels, expired};
-ghost use Rattle.mr_room.specs.Commands.{Plans, on_keys};
+ghost use Rattle.mr_cmd_shared.specs.Keys.{dels, expired};
+ghost use Rattle.mr_cmd_shared.specs.Commands.{Plans, on_keys};
 ghost use Rattle.mr_cmd_string.specs.SettingAll.{names, last_texts, set_effects, mset, msetnx};
 ghost use Rattle.mr_cmd_string.specs.Finding.{is_any_live, is_any_expired, changed_at};
 
 use crate::setting::is_plain;
 use mr_arguments::{Argument, WordPairs, Words};
 use mr_bytes::Word;
+use mr_cmd_shared::{Effects, count, done, push_dels, see};
 use mr_data::{Dataset, Effect, EffectPairs, Given};
 use mr_map::SliceMap;
 use mr_resp::Reply;
-use mr_room::{Effects, count, done, push_dels, see};
 use std::alloc::{AllocError, Global};
 use std::borrow::CowSlice;
 
@@ -25,7 +25,9 @@ pub fn mset(
     given: Given,
     effects: &mut Effects,
 ) -> Result<Reply, AllocError>
-    ensures { IfOk result (λ r. Plans (on_keys (names pairs.now) (mset pairs.now)) given.now held.now (view r) effects.old effects.new) }
+    ensures { IfOk result (λ r.
+        Plans (on_keys (names pairs.now) (mset pairs.now)) given.now held.now (view r) effects.old
+        effects.new) }
 {
     let values = last_texts(alloc, pairs)?;
     let changed = find_changed(alloc, held, &values, given)?;
@@ -44,7 +46,9 @@ pub fn msetnx(
     given: Given,
     effects: &mut Effects,
 ) -> Result<Reply, AllocError>
-    ensures { IfOk result (λ r. Plans (on_keys (names pairs.now) (msetnx pairs.now)) given.now held.now (view r) effects.old effects.new) }
+    ensures { IfOk result (λ r.
+        Plans (on_keys (names pairs.now) (msetnx pairs.now)) given.now held.now (view r) effects.old
+        effects.new) }
 {
     let (there, expired) = find_any(held, pairs, given);
     if expired {
@@ -88,8 +92,10 @@ fn find_changed(
     values: &SliceMap<'_, Argument<'_>>,
     given: Given,
 ) -> Result<Changed, AllocError>
-    ensures texts { IfOk result (λ c. c.texts ≡ changed_at given.now (entries values.now) held.now) }
-    ensures expired { IfOk result (λ c. c.expired ≡ is_any_expired given.now (entries values.now) held.now) }
+    ensures texts { IfOk result (λ c.
+        c.texts ≡ changed_at given.now (entries values.now) held.now) }
+    ensures expired { IfOk result (λ c.
+        c.expired ≡ is_any_expired given.now (entries values.now) held.now) }
 {
     let mut changed = Changed {
         texts: EffectPairs::new(alloc),
@@ -148,7 +154,8 @@ fn push_expired(
     given: Given,
     effects: &mut Effects,
 ) -> Result<(), AllocError>
-    ensures { OnOk result (effects.new ≡ effects.old ++ dels (expired given.now (names pairs.now) held.now)) }
+    ensures { OnOk result (effects.new ≡
+        effects.old ++ dels (expired given.now (names pairs.now) held.now)) }
 {
     let mut keys = Vec::new(alloc);
     for (key, _) in pairs.iter() {

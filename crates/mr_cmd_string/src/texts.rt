@@ -4,14 +4,14 @@ ghost use Rattle.std.specs.Cow.{cow_slice_items};
 ghost use Rattle.mr_resp.specs.Replies as replies;
 ghost use Rattle.mr_resp.specs.ReplyView.{view, trees_of};
 ghost use Rattle.mr_data.specs.Dataset.{live};
-ghost use Rattle.mr_room.specs.Commands.{Plans, on_keys};
+ghost use Rattle.mr_cmd_shared.specs.Commands.{Plans, on_keys};
 ghost use Rattle.mr_cmd_string.specs.Texts.{get_reply, strlen_reply, getrange_reply, part, found, text_or_null, texts, texts_at};
 
 use mr_arguments::Words;
 use mr_bytes::window;
+use mr_cmd_shared::{Effects, bulk, count, push_dels, see, wrong_kind};
 use mr_data::{Dataset, Entry, Given, Value};
 use mr_resp::Reply;
-use mr_room::{Effects, bulk, count, push_dels, see, wrong_kind};
 use std::alloc::{AllocError, Global};
 
 /// `GET`
@@ -47,7 +47,8 @@ pub fn getrange(
     last: i64,
     live_entry: Option<&Entry>,
 ) -> Result<Reply, AllocError>
-    ensures { IfOk result (λ r. view r ≡ getrange_reply first last (option_copied live_entry.entry)) }
+    ensures { IfOk result (λ r.
+        view r ≡ getrange_reply first last (option_copied live_entry.entry)) }
 {
     let Some(entry) = live_entry else {
         return Ok(Reply::Bulk(Vec::new(alloc)));
@@ -76,7 +77,9 @@ pub fn mget(
     given: Given,
     effects: &mut Effects,
 ) -> Result<Reply, AllocError>
-    ensures { IfOk result (λ r. Plans (on_keys keys.now (texts keys.now)) given.now held.now (view r) effects.old effects.new) }
+    ensures { IfOk result (λ r.
+        Plans (on_keys keys.now (texts keys.now)) given.now held.now (view r) effects.old
+        effects.new) }
 {
     push_dels(alloc, held, keys, given, true, effects)?;
     texts_at(alloc, held, keys, given)
@@ -89,7 +92,8 @@ fn texts_at(
     keys: &Words<'_, '_>,
     given: Given,
 ) -> Result<Reply, AllocError>
-    ensures { IfOk result (λ r. view r ≡ replies.array (trees_of (texts_at given.now keys.now held.now))) }
+    ensures { IfOk result (λ r.
+        view r ≡ replies.array (trees_of (texts_at given.now keys.now held.now))) }
 {
     let words = keys.as_slice();
     let mut replies = Vec::with_capacity(alloc, words.len())?;

@@ -10,9 +10,9 @@ use Rattle.mr_score.specs.Score.{is_score}
 use Rattle.mr_score.specs.Texts.{within_limit}
 use Rattle.mr_effect.specs.declared.effect.Effect.{Effect}
 use Rattle.mr_effect.specs.declared.effect.Effect.TheVariants as effect
-use Rattle.mr_entries.specs.Cuts.{cut}
-use Rattle.mr_room.specs.Taken.{is_key}
-use Rattle.mr_entries.proofs.Puts.{is_key_itself}
+use Rattle.mr_keyspace.specs.Cuts.{cut}
+use Rattle.mr_cmd_shared.specs.Taken.{is_key}
+use Rattle.mr_keyspace.proofs.Puts.{is_key_itself}
 use Rattle.mr_zset_options.specs.declared.choices.ScoreCondition.{ScoreCondition}
 use Rattle.mr_zset_options.specs.declared.choices.Comparison.{Comparison}
 use Rattle.mr_zset_options.specs.declared.choices.ScoresReply.{ScoresReply}

@@ -2,11 +2,11 @@
 use Rattle.std.proofs.Common.{◌≡◌, List, [], ◌++◌, Option, Some, None, sym, ◌∙◌, ap}
 use Rattle.mr_resp.specs.Replies.{Tree}
 use Rattle.mr_effect.specs.declared.effect.Effect.{Effect}
-use Rattle.mr_entries.specs.Steps.{sorted_sets, held}
-use Rattle.mr_entries.specs.declared.value.Entry.{Entry}
-use Rattle.mr_room.specs.Answered.{Answered, Takes, wrong_kind}
-use Rattle.mr_room.specs.Collections.{Change, changed, changing, telling, replied}
-use Rattle.mr_room.proofs.PlanLemmas.{takes_reply}
+use Rattle.mr_keyspace.specs.Steps.{sorted_sets, held}
+use Rattle.mr_keyspace.specs.declared.value.Entry.{Entry}
+use Rattle.mr_cmd_shared.specs.Answered.{Answered, Takes, wrong_kind}
+use Rattle.mr_cmd_shared.specs.Collections.{Change, changed, changing, telling, replied}
+use Rattle.mr_cmd_shared.proofs.PlanLemmas.{takes_reply}
 use Rattle.mr_cmd_zset.specs.declared.zset_ask.ZSetAsk.{ZSetAsk}
 use Rattle.mr_cmd_zset.specs.declared.zset_ask.ZSetAsk.TheVariants as ask
 use Rattle.mr_cmd_zset.specs.Scores.{Scores, told, Makes}

@@ -16,8 +16,8 @@ use Rattle.std.proofs.lemmas.Map.Keys.{sorted_head, sorted_tail}
 use Rattle.std.proofs.lemmas.Map.Lookups.{exact_bytes}
 use Rattle.mr_map.specs.Bytes.{Bytes, bytes_cmp}
 use Rattle.mr_map.proofs.Domains.{one_unit}
-use Rattle.mr_room.specs.Taken.{texts, is_key, has}
-use Rattle.mr_entries.proofs.Maps.{same_key}
+use Rattle.mr_cmd_shared.specs.Taken.{texts, is_key, has}
+use Rattle.mr_keyspace.proofs.Maps.{same_key}
 use Rattle.mr_cmd_zset.specs.Removing.{as_set}
 use Rattle.mr_cmd_zset.proofs.Removals.{contains_as_set}
 

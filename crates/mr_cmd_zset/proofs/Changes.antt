@@ -10,29 +10,29 @@ use Rattle.mr_resp.specs.Replies.{Tree}
 use Rattle.mr_effect.specs.Effects.{is_some_of}
 use Rattle.mr_effect.specs.declared.effect.Effect.{Effect}
 use Rattle.mr_effect.specs.declared.effect.Effect.TheVariants as effect
-use Rattle.mr_entries.specs.Dataset.{Dataset}
+use Rattle.mr_keyspace.specs.Dataset.{Dataset}
 use Rattle.mr_data.specs.Dataset.{IsDataset, IsValue, live, is_expired}
-use Rattle.mr_entries.specs.Collections.{with_scores, without_scores}
-use Rattle.mr_entries.specs.Steps.{sorted_sets, held, sorted_set_of, entry_of, deadline_of, on}
-use Rattle.mr_entries.specs.Changes.{change}
-use Rattle.mr_entries.specs.declared.value.Value.{Value}
-use Rattle.mr_entries.specs.declared.value.Value.TheVariants as value
-use Rattle.mr_entries.specs.declared.value.Entry.{Entry}
-use Rattle.mr_entries.proofs.Nonempty.{without_scores_none, no_elements}
-use Rattle.mr_entries.specs.Cuts.{cut}
-use Rattle.mr_room.specs.Taken.{is_key, has}
-use Rattle.mr_room.specs.Keys.{purged}
-use Rattle.mr_room.specs.Collections.{Change, changing}
-use Rattle.mr_room.specs.Commands.{on_key, before}
-use Rattle.mr_entries.proofs.Cutting.{IsGroup, cut_groups, cut_whole, no_cut}
+use Rattle.mr_keyspace.specs.Collections.{with_scores, without_scores}
+use Rattle.mr_keyspace.specs.Steps.{sorted_sets, held, sorted_set_of, entry_of, deadline_of, on}
+use Rattle.mr_keyspace.specs.Changes.{change}
+use Rattle.mr_keyspace.specs.declared.value.Value.{Value}
+use Rattle.mr_keyspace.specs.declared.value.Value.TheVariants as value
+use Rattle.mr_keyspace.specs.declared.value.Entry.{Entry}
+use Rattle.mr_keyspace.proofs.Nonempty.{without_scores_none, no_elements}
+use Rattle.mr_keyspace.specs.Cuts.{cut}
+use Rattle.mr_cmd_shared.specs.Taken.{is_key, has}
+use Rattle.mr_cmd_shared.specs.Keys.{purged}
+use Rattle.mr_cmd_shared.specs.Collections.{Change, changing}
+use Rattle.mr_cmd_shared.specs.Commands.{on_key, before}
+use Rattle.mr_keyspace.proofs.Cutting.{IsGroup, cut_groups, cut_whole, no_cut}
 use Rattle.mr_data.proofs.Entries.{all_map}
 use Rattle.mr_data.proofs.Folds.{setting_scores, is_kept, set_scores_is_step}
 use Rattle.mr_data.proofs.Running.{IsStep, steps_of, IsFold, groups_run}
 use Rattle.mr_data.proofs.KindLaws.{sorted_sets_are, sorted_sets_kept}
-use Rattle.mr_entries.proofs.Maps.{same_key}
-use Rattle.mr_room.proofs.KeyLists.{get_purged}
-use Rattle.mr_room.proofs.Laws.{faithful, at_key_faithful, IsLawful}
-use Rattle.mr_room.proofs.Changing.{IsFaithfulChange, changing_faithful}
+use Rattle.mr_keyspace.proofs.Maps.{same_key}
+use Rattle.mr_cmd_shared.proofs.KeyLists.{get_purged}
+use Rattle.mr_cmd_shared.proofs.Laws.{faithful, at_key_faithful, IsLawful}
+use Rattle.mr_cmd_shared.proofs.Changing.{IsFaithfulChange, changing_faithful}
 use Rattle.mr_cmd_zset.specs.Scores.{Scores, changed, lost, unchanged, set_to, reduced_to}
 use Rattle.mr_cmd_zset.proofs.Maps.{get_without}
 use Rattle.mr_cmd_zset.proofs.Differences.{with_changed, none_changed, changed_all, without_lost, none_lost, lost_all}

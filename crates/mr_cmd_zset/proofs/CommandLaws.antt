@@ -9,20 +9,20 @@ use Rattle.mr_bytes.specs.Window.{window_of, windowed}
 use Rattle.mr_score.specs.Score.{is_score}
 use Rattle.mr_zset.specs.Pairs.{pairs_of, range_of}
 use Rattle.mr_resp.specs.Replies.{Tree}
-use Rattle.mr_entries.specs.Dataset.{Dataset}
+use Rattle.mr_keyspace.specs.Dataset.{Dataset}
 use Rattle.mr_data.specs.Dataset.{IsDataset}
-use Rattle.mr_entries.specs.Steps.{sorted_sets, held}
-use Rattle.mr_entries.specs.declared.value.Entry.{Entry}
+use Rattle.mr_keyspace.specs.Steps.{sorted_sets, held}
+use Rattle.mr_keyspace.specs.declared.value.Entry.{Entry}
 use Rattle.mr_cmd_zset.specs.Carried.{zset_words, members_of}
 use Rattle.mr_zset_options.specs.Scored.{is_scored}
 use Rattle.mr_cmd_zset.specs.declared.zset_ask.ZSetAsk.{ZSetAsk}
 use Rattle.mr_cmd_zset.specs.declared.zset_ask.ZSetAsk.TheVariants as ask
 use Rattle.mr_zset_options.specs.declared.choices.ScoreCondition.{ScoreCondition}
 use Rattle.mr_zset_options.specs.declared.choices.Comparison.{Comparison}
-use Rattle.mr_room.specs.Collections.{telling}
-use Rattle.mr_room.specs.Commands.{on_key, before}
-use Rattle.mr_room.proofs.Laws.{faithful, at_key_faithful, IsLawful}
-use Rattle.mr_room.proofs.Changing.{IsFaithfulChange, telling_faithful}
+use Rattle.mr_cmd_shared.specs.Collections.{telling}
+use Rattle.mr_cmd_shared.specs.Commands.{on_key, before}
+use Rattle.mr_cmd_shared.proofs.Laws.{faithful, at_key_faithful, IsLawful}
+use Rattle.mr_cmd_shared.proofs.Changing.{IsFaithfulChange, telling_faithful}
 use Rattle.mr_cmd_zset.specs.Scores.{Scores, score_reply, unchanged, set_to}
 use Rattle.mr_cmd_zset.specs.Adding.{is_set, with_pair, with_pairs, zadd, zincrby, set_score, out_of_range, score_or_0}
 use Rattle.mr_cmd_zset.specs.Removing.{members_of as names_of, taken, zrem, take_pairs, zremrangebyrank, zremrangebyscore}

@@ -7,9 +7,9 @@ use Rattle.std.specs.FinMap.{get, empty, insert, keys, entries, contains_key, re
 use Rattle.std.specs.FinMap.Entries.{put}
 use Rattle.std.proofs.lemmas.Cmp.{nat_list_cmp_total}
 use Rattle.mr_map.specs.Bytes.{Bytes, bytes_cmp}
-use Rattle.mr_entries.specs.Collections.{with_scores, without_scores}
-use Rattle.mr_room.specs.Taken.{is_key, has}
-use Rattle.mr_entries.proofs.Maps.{same_key}
+use Rattle.mr_keyspace.specs.Collections.{with_scores, without_scores}
+use Rattle.mr_cmd_shared.specs.Taken.{is_key, has}
+use Rattle.mr_keyspace.proofs.Maps.{same_key}
 use Rattle.mr_cmd_zset.specs.Scores.{Scores, is_same, changed, changed_alone, lost, over}
 use Rattle.mr_data.proofs.Entries.{own_entries, all_map, all_true}
 use Rattle.mr_cmd_zset.proofs.Entries.{entries_retained}

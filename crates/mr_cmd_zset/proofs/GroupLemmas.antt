@@ -5,9 +5,9 @@ use Rattle.std.proofs.Math.Seq.{take-append_seam, drop-append_seam}
 use Rattle.std.proofs.Math.ListN.{drop_of_length-le}
 use Rattle.std.proofs.lemmas.List.{take_all}
 use Rattle.mr_effect.specs.declared.effect.Effect.{Effect}
-use Rattle.mr_entries.specs.Cuts.{most_items, cut}
-use Rattle.mr_entries.proofs.Cutting.{cut_more}
-use Rattle.mr_room.specs.Groups.{TakesItems}
+use Rattle.mr_keyspace.specs.Cuts.{most_items, cut}
+use Rattle.mr_keyspace.proofs.Cutting.{cut_more}
+use Rattle.mr_cmd_shared.specs.Groups.{TakesItems}
 
 not_full : (n : ℕ) → n ≡ 0 → n ≡ most_items → ⊥
 not_full n a b = omega (arith, a, b)

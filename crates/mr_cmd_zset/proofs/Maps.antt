@@ -9,9 +9,9 @@ use Rattle.std.proofs.lemmas.Cmp.{nat_list_cmp_total, int_cmp_total, tied_itself
 use Rattle.std.proofs.lemmas.List.{nil_from_length}
 use Rattle.std.proofs.lemmas.Map.Lookups.{exact_bytes}
 use Rattle.mr_map.specs.Bytes.{Bytes, ByteMap, bytes_cmp}
-use Rattle.mr_entries.specs.Collections.{with_scores, without_scores}
-use Rattle.mr_room.specs.Taken.{is_key, has}
-use Rattle.mr_entries.proofs.Maps.{same_key}
+use Rattle.mr_keyspace.specs.Collections.{with_scores, without_scores}
+use Rattle.mr_cmd_shared.specs.Taken.{is_key, has}
+use Rattle.mr_keyspace.proofs.Maps.{same_key}
 use Rattle.mr_cmd_zset.specs.Scores.{Scores, is_same, over}
 use Rattle.mr_data.proofs.Entries.{AreApart, entries_apart, missing}
 

@@ -4,8 +4,8 @@ use Rattle.std.specs.List.{flat_map}
 use Rattle.std.proofs.Math.ListN.{drop_of_length-le}
 use Rattle.std.proofs.lemmas.List.{drop_more}
 use Rattle.mr_effect.specs.declared.effect.Effect.{Effect}
-use Rattle.mr_entries.specs.Cuts.{cut}
-use Rattle.mr_room.specs.Groups.{TakesItems}
+use Rattle.mr_keyspace.specs.Cuts.{cut}
+use Rattle.mr_cmd_shared.specs.Groups.{TakesItems}
 
 module _ {X Y : Type 0} (effect : List Y → Effect) (items_of : X → List Y) where
   -- the effects with the group and what the rest has are those of what all have

@@ -16,7 +16,7 @@ use Rattle.mr_bytes.specs.Window.{window_of, windowed}
 use Rattle.mr_resp.specs.Replies.{Tree}
 use Rattle.mr_effect.specs.declared.effect.Effect.{Effect}
 use Rattle.mr_effect.specs.declared.effect.Effect.TheVariants as effect
-use Rattle.mr_entries.specs.Cuts.{cut}
+use Rattle.mr_keyspace.specs.Cuts.{cut}
 use Rattle.mr_zset.specs.Order.{placed, in_order}
 use Rattle.mr_zset.specs.Pairs.{pair_cmp, pairs_of, range_of, shown}
 use Rattle.mr_zset.specs.declared.pair.Pair.{Pair}
@@ -26,10 +26,10 @@ use Rattle.mr_zset.specs.declared.bound.Bound.{Bound}
 use Rattle.mr_zset_options.specs.declared.choices.Order.{Order}
 use Rattle.mr_zset_options.specs.declared.choices.Order.TheVariants as order
 use Rattle.mr_zset_options.specs.declared.choices.RangeReply.TheVariants.{WithScores}
-use Rattle.mr_entries.specs.Collections.{with_members, without_scores}
-use Rattle.mr_room.specs.Taken.{is_key, has, texts}
-use Rattle.mr_entries.proofs.Maps.{same_key}
-use Rattle.mr_room.proofs.KeyLists.{more_words}
+use Rattle.mr_keyspace.specs.Collections.{with_members, without_scores}
+use Rattle.mr_cmd_shared.specs.Taken.{is_key, has, texts}
+use Rattle.mr_keyspace.proofs.Maps.{same_key}
+use Rattle.mr_cmd_shared.proofs.KeyLists.{more_words}
 use Rattle.mr_cmd_zset.specs.Scores.{Scores, number, lost, pairs_in, reduced_to, Makes}
 use Rattle.mr_cmd_zset.specs.Removing.{members_of, as_set, remove_all}
 use Rattle.mr_cmd_zset.specs.Ranges.{pairs_reply}

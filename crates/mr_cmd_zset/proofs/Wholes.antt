@@ -11,7 +11,7 @@ use Rattle.mr_zset.specs.Order.{placed, in_order}
 use Rattle.mr_zset.specs.Pairs.{pair_cmp, pairs_of}
 use Rattle.mr_zset_options.specs.declared.choices.Order.{Order}
 use Rattle.mr_zset_options.specs.declared.choices.Order.TheVariants as order
-use Rattle.mr_room.specs.Taken.{is_key, has}
+use Rattle.mr_cmd_shared.specs.Taken.{is_key, has}
 use Rattle.mr_cmd_zset.specs.Scores.{Scores, pairs_in}
 use Rattle.mr_cmd_zset.specs.Removing.{members_of, as_set}
 use Rattle.mr_cmd_zset.proofs.Firsts.{len_pairs, len_pairs_in}

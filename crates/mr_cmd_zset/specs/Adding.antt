@@ -11,7 +11,7 @@ use Rattle.mr_zset_options.specs.declared.choices.Comparison.{Comparison}
 use Rattle.mr_zset_options.specs.declared.choices.Comparison.TheVariants as comparison
 use Rattle.mr_zset_options.specs.declared.choices.ScoresReply.{ScoresReply}
 use Rattle.mr_zset_options.specs.declared.choices.ScoresReply.TheVariants as answer
-use Rattle.mr_room.specs.Collections.{Change}
+use Rattle.mr_cmd_shared.specs.Collections.{Change}
 use Rattle.mr_cmd_zset.specs.Scores.{Scores, number, score_reply, is_same, unchanged, set_to}
 
 -- ---- which scores are set

@@ -4,14 +4,14 @@ use Rattle.std.specs.List.{list_all}
 use Rattle.std.specs.FinMap.{len}
 use Rattle.mr_map.specs.Bytes.{Bytes}
 use Rattle.mr_zset.specs.Pairs.{range_of}
-use Rattle.mr_entries.specs.Steps.{sorted_sets}
-use Rattle.mr_entries.specs.declared.value.Entry.{Entry}
+use Rattle.mr_keyspace.specs.Steps.{sorted_sets}
+use Rattle.mr_keyspace.specs.declared.value.Entry.{Entry}
 use Rattle.mr_zset_options.specs.Scored.{is_scored}
 use Rattle.mr_cmd_zset.specs.declared.zset_ask.ZSetAsk.{ZSetAsk}
 use Rattle.mr_cmd_zset.specs.declared.zset_ask.ZSetAsk.TheVariants as ask
-use Rattle.mr_room.specs.Answered.{Answered}
-use Rattle.mr_room.specs.Collections.{Change, changing}
-use Rattle.mr_room.specs.Commands.{Command, on_key}
+use Rattle.mr_cmd_shared.specs.Answered.{Answered}
+use Rattle.mr_cmd_shared.specs.Collections.{Change, changing}
+use Rattle.mr_cmd_shared.specs.Commands.{Command, on_key}
 use Rattle.mr_cmd_zset.specs.Scores.{Scores, number, told}
 use Rattle.mr_cmd_zset.specs.Adding.{zadd, zincrby}
 use Rattle.mr_cmd_zset.specs.Removing.{zrem, take_pairs, zremrangebyrank, zremrangebyscore}

@@ -5,10 +5,10 @@ use Rattle.mr_map.specs.Bytes.{Bytes, ByteMap}
 use Rattle.mr_bytes.specs.Window.{window_of, windowed}
 use Rattle.mr_zset.specs.Pairs.{pairs_of, range_of}
 use Rattle.mr_zset.specs.declared.bound.Bound.{Bound}
-use Rattle.mr_entries.specs.Collections.{with_members, without_scores}
+use Rattle.mr_keyspace.specs.Collections.{with_members, without_scores}
 use Rattle.mr_zset_options.specs.declared.choices.Order.{Order}
 use Rattle.mr_zset_options.specs.declared.choices.RangeReply.TheVariants.{WithScores}
-use Rattle.mr_room.specs.Collections.{Change}
+use Rattle.mr_cmd_shared.specs.Collections.{Change}
 use Rattle.mr_cmd_zset.specs.Scores.{Scores, number, pairs_in, lost, reduced_to}
 use Rattle.mr_cmd_zset.specs.Ranges.{pairs_reply}
 

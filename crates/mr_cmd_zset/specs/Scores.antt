@@ -9,11 +9,11 @@ use Rattle.mr_resp.specs.Replies.{Tree}
 use Rattle.mr_zset.specs.Pairs.{pairs_of}
 use Rattle.mr_effect.specs.declared.effect.Effect.{Effect}
 use Rattle.mr_effect.specs.declared.effect.Effect.TheVariants as effect
-use Rattle.mr_entries.specs.Collections.{with_scores}
+use Rattle.mr_keyspace.specs.Collections.{with_scores}
 use Rattle.mr_zset_options.specs.declared.choices.Order.{Order}
 use Rattle.mr_zset_options.specs.declared.choices.Order.TheVariants as order
-use Rattle.mr_entries.specs.Cuts.{cut}
-use Rattle.mr_room.specs.Collections.{Change}
+use Rattle.mr_keyspace.specs.Cuts.{cut}
+use Rattle.mr_cmd_shared.specs.Collections.{Change}
 
 abbrev pub Scores : Type 0
 Scores = ByteMap ℤ

@@ -8,10 +8,10 @@ use Rattle.mr_resp.specs.Replies.{Tree}
 use Rattle.mr_resp.specs.ReplyView.{trees_of}
 use Rattle.mr_zset.specs.declared.bound.Bound.{Bound}
 use Rattle.mr_zset.specs.Pairs.{range_of, rank_of}
-use Rattle.mr_entries.specs.Steps.{sorted_sets}
-use Rattle.mr_entries.specs.declared.value.Entry.{Entry}
-use Rattle.mr_room.specs.Answered.{Answered}
-use Rattle.mr_room.specs.Collections.{telling}
+use Rattle.mr_keyspace.specs.Steps.{sorted_sets}
+use Rattle.mr_keyspace.specs.declared.value.Entry.{Entry}
+use Rattle.mr_cmd_shared.specs.Answered.{Answered}
+use Rattle.mr_cmd_shared.specs.Collections.{telling}
 use Rattle.mr_zset_options.specs.declared.choices.Order.{Order}
 use Rattle.mr_zset_options.specs.declared.choices.Order.TheVariants.{Ascending, Descending}
 use Rattle.mr_cmd_zset.specs.Scores.{Scores, number, score_reply}

@@ -10,9 +10,9 @@ use crate::grouping::{push_changed, push_changed_alone};
 use crate::replies::{out_of_range, score_bulk};
 use crate::rules::Rules;
 use mr_arguments::Argument;
+use mr_cmd_shared::{Effects, count};
 use mr_map::SliceMap;
 use mr_resp::Reply;
-use mr_room::{Effects, count};
 use mr_score::is_score;
 use mr_zset::ZSet;
 use mr_zset_options::ScoredMembers;
@@ -27,7 +27,9 @@ pub fn zadd(
     set: &ZSet,
     effects: &mut Effects,
 ) -> Result<Reply, AllocError>
-    ensures { IfOk result (λ r. Makes (zadd rules.condition rules.comparison key.now rules.reply pairs.now set.now) (view r) effects.old effects.new) }
+    ensures { IfOk result (λ r.
+        Makes (zadd rules.condition rules.comparison key.now rules.reply pairs.now set.now) (view r)
+        effects.old effects.new) }
 {
     if let Some((score, member)) = only_pair(pairs) {
         let reply = add_one(alloc, key, rules, score, member, set, effects)?;
@@ -61,7 +63,9 @@ fn add_one(
     set: &ZSet,
     effects: &mut Effects,
 ) -> Result<Reply, AllocError>
-    ensures { IfOk result (λ r. Makes (zadd rules.condition rules.comparison key.now rules.reply ((score, member.now) ∷ []) set.now) (view r) effects.old effects.new) }
+    ensures { IfOk result (λ r.
+        Makes (zadd rules.condition rules.comparison key.now rules.reply ((score, member.now) ∷
+        []) set.now) (view r) effects.old effects.new) }
 {
     let before = set.score(member);
     let after = rules.score_after(before, score);
@@ -77,8 +81,10 @@ fn put_pairs<'a>(
     set: &ZSet,
 ) -> Result<(SliceMap<'a, i64>, usize), AllocError>
     requires { length pairs.now < 2 ^ 63 }
-    ensures scores { IfOk result (λ r. over r.0 set.now ≡ with_pairs rules.condition rules.comparison pairs.now set.now) }
-    ensures count { IfOk result (λ r. r.1 ≡ count_pairs rules.condition rules.comparison rules.reply pairs.now set.now) }
+    ensures scores { IfOk result (λ r.
+        over r.0 set.now ≡ with_pairs rules.condition rules.comparison pairs.now set.now) }
+    ensures count { IfOk result (λ r.
+        r.1 ≡ count_pairs rules.condition rules.comparison rules.reply pairs.now set.now) }
     ensures small { IfOk result (λ r. r.1 < 2 ^ 63) }
 {
     let mut scores = SliceMap::new(alloc);
@@ -98,8 +104,12 @@ fn put_pair<'a>(
     set: &ZSet,
     scores: &mut SliceMap<'a, i64>,
 ) -> Result<bool, AllocError>
-    ensures counts { IfOk result (λ counts. counts ≡ is_counted rules.reply (get (over scores.old set.now) member.now) (score_after rules.condition rules.comparison (get (over scores.old set.now) member.now) score)) }
-    ensures put { OnOk result (over scores.new set.now ≡ with_pair rules.condition rules.comparison (score, member.now) (over scores.old set.now)) }
+    ensures counts { IfOk result (λ counts.
+        counts ≡ is_counted rules.reply (get (over scores.old set.now) member.now)
+        (score_after rules.condition rules.comparison (get (over scores.old set.now) member.now)
+        score)) }
+    ensures put { OnOk result (over scores.new set.now ≡
+        with_pair rules.condition rules.comparison (score, member.now) (over scores.old set.now)) }
 {
     let before = score_so_far(scores, set, member);
     if rules.sets(before, score) {
@@ -127,7 +137,8 @@ pub fn zincrby(
     set: &ZSet,
     effects: &mut Effects,
 ) -> Result<Reply, AllocError>
-    ensures { IfOk result (λ r. Makes (zincrby key.now by member.now set.now) (view r) effects.old effects.new) }
+    ensures { IfOk result (λ r.
+        Makes (zincrby key.now by member.now set.now) (view r) effects.old effects.new) }
 {
     let before = set.score(member);
     let Some(score) = increased(before, by) else {

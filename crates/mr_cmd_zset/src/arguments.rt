@@ -267,7 +267,9 @@ fn ranks<'a, 't>(
     order: Order,
     reply: RangeReply,
 ) -> Reading<'a, 't>
-    ensures { result ≡ ranks (cow_slice_items key.now) (cow_slice_items first.now) (cow_slice_items last.now) order reply }
+    ensures { result ≡
+        ranks (cow_slice_items key.now) (cow_slice_items first.now) (cow_slice_items last.now) order
+        reply }
 {
     Ok(ZSetAsk::RangeByRank {
         key: Argument::of(key),
@@ -287,7 +289,9 @@ fn scores<'a, 't>(
     limit: &Option<LimitWords<'_>>,
     reply: RangeReply,
 ) -> Reading<'a, 't>
-    ensures { result ≡ scores (cow_slice_items key.now) (cow_slice_items first.now) (cow_slice_items second.now) order limit.now reply }
+    ensures { result ≡
+        scores (cow_slice_items key.now) (cow_slice_items first.now) (cow_slice_items second.now)
+        order limit.now reply }
 {
     let limit = limit_if_any(limit)?;
     let (min, max) = bounds(order, first, second)?;

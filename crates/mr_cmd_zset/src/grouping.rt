@@ -2,14 +2,14 @@
 ghost use Rattle.std.specs.Prelude.{◌≡◌, ◌∷◌, ◌++◌, [], map, OnOk};
 ghost use Rattle.std.specs.FinMap.{keys};
 ghost use Rattle.mr_effect.specs.declared.effect.Effect.TheVariants as made;
-ghost use Rattle.mr_entries.specs.Cuts.{cut};
-ghost use Rattle.mr_room.specs.Taken.{texts};
+ghost use Rattle.mr_keyspace.specs.Cuts.{cut};
+ghost use Rattle.mr_cmd_shared.specs.Taken.{texts};
 ghost use Rattle.mr_cmd_zset.specs.Scores.{changed, changed_alone};
 
 use crate::groups::{MemberGroup, ScoreGroup, end_members, end_scores};
 use mr_arguments::Argument;
+use mr_cmd_shared::Effects;
 use mr_map::SliceMap;
-use mr_room::Effects;
 use mr_zset::ZSet;
 use std::alloc::{AllocError, Global};
 
@@ -21,7 +21,8 @@ pub fn push_changed(
     set: &ZSet,
     effects: &mut Effects,
 ) -> Result<(), AllocError>
-    ensures { OnOk result (effects.new ≡ effects.old ++ map (made.SetScores key.now) (cut (changed set.now scores.now))) }
+    ensures { OnOk result (effects.new ≡
+        effects.old ++ map (made.SetScores key.now) (cut (changed set.now scores.now))) }
 {
     let mut group = ScoreGroup::new(alloc, key.as_slice());
     for (member, score) in scores.iter() {
@@ -40,7 +41,8 @@ pub fn push_changed_alone(
     after: Option<i64>,
     effects: &mut Effects,
 ) -> Result<(), AllocError>
-    ensures { OnOk result (effects.new ≡ effects.old ++ map (made.SetScores key.now) (cut (changed_alone member.now before after))) }
+    ensures { OnOk result (effects.new ≡
+        effects.old ++ map (made.SetScores key.now) (cut (changed_alone member.now before after))) }
 {
     let mut group = ScoreGroup::new(alloc, key.as_slice());
     group.push(member, before, after, effects)?;
@@ -55,7 +57,8 @@ pub fn push_lost(
     members: &[&[u8]],
     effects: &mut Effects,
 ) -> Result<(), AllocError>
-    ensures { OnOk result (effects.new ≡ effects.old ++ map (made.RemoveScores key.now) (cut (texts members.now))) }
+    ensures { OnOk result (effects.new ≡
+        effects.old ++ map (made.RemoveScores key.now) (cut (texts members.now))) }
 {
     let mut group = MemberGroup::new(alloc, key.as_slice());
     for member in members {
@@ -72,7 +75,8 @@ pub fn push_all(
     set: &ZSet,
     effects: &mut Effects,
 ) -> Result<(), AllocError>
-    ensures { OnOk result (effects.new ≡ effects.old ++ map (made.RemoveScores key.now) (cut (keys set.now))) }
+    ensures { OnOk result (effects.new ≡
+        effects.old ++ map (made.RemoveScores key.now) (cut (keys set.now))) }
 {
     let mut group = MemberGroup::new(alloc, key.as_slice());
     for (member, _) in set.iter() {
@@ -89,7 +93,8 @@ pub fn push_lost_alone(
     lost: &[u8],
     effects: &mut Effects,
 ) -> Result<(), AllocError>
-    ensures { OnOk result (effects.new ≡ effects.old ++ map (made.RemoveScores key.now) (cut (lost.now ∷ []))) }
+    ensures { OnOk result (effects.new ≡
+        effects.old ++ map (made.RemoveScores key.now) (cut (lost.now ∷ []))) }
 {
     let mut group = MemberGroup::new(alloc, key.as_slice());
     group.push(lost, effects)?;

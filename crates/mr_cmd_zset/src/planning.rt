@@ -5,7 +5,7 @@ ghost use Rattle.mr_bytes.specs.Words.{fits};
 ghost use Rattle.mr_resp.specs.ReplyView.{view};
 ghost use Rattle.mr_data.specs.Dataset.{IsDataset};
 ghost use Rattle.mr_cmd_zset.specs.Carried.{zset_words};
-ghost use Rattle.mr_room.specs.Commands.{IsPlan, IsFaithful, HasCommandTexts};
+ghost use Rattle.mr_cmd_shared.specs.Commands.{IsPlan, IsFaithful, HasCommandTexts};
 ghost use Rattle.mr_cmd_zset.specs.Commands.{key_of, change, command, HasScores};
 ghost use Rattle.mr_cmd_zset.specs.Scores.{Makes};
 
@@ -14,9 +14,9 @@ use crate::rules::Rules;
 use crate::zset_ask::ZSetAsk;
 use crate::{adding, ranges, removing, telling};
 use mr_arguments::Argument;
+use mr_cmd_shared::{Effects, look, wrong_kind};
 use mr_data::{Dataset, Given, Plan};
 use mr_resp::Reply;
-use mr_room::{Effects, look, wrong_kind};
 use mr_zset::ZSet;
 use std::alloc::{AllocError, Global};
 
@@ -27,13 +27,16 @@ pub fn plan(
     ask: &ZSetAsk<'_, '_>,
     given: Given,
 ) -> Result<Plan, AllocError>
-    ensures plan { IfOk result (λ p. IsPlan (command ask.now) given.now held.now (view p.reply) p.effects.items) }
+    ensures plan { IfOk result (λ p.
+        IsPlan (command ask.now) given.now held.now (view p.reply) p.effects.items) }
 
     // The effects lead to what the command leaves, and its own ones are there exactly where it changes something.
-    ensures faithful { IsTrue (list_all fits (zset_words ask.now)) → IsFaithful (command ask.now) given.now held.now }
+    ensures faithful { IsTrue (list_all fits (zset_words ask.now)) →
+        IsFaithful (command ask.now) given.now held.now }
 
     // .. and their texts are command texts.
-    ensures texts { IsTrue (list_all fits (zset_words ask.now)) → HasCommandTexts (command ask.now) given.now held.now }
+    ensures texts { IsTrue (list_all fits (zset_words ask.now)) →
+        HasCommandTexts (command ask.now) given.now held.now }
 {
     scores_are_limited(ask);
     planned(alloc, held, ask, given)
@@ -55,7 +58,8 @@ fn planned(
     ask: &ZSetAsk<'_, '_>,
     given: Given,
 ) -> Result<Plan, AllocError>
-    ensures plan { IfOk result (λ p. IsPlan (command ask.now) given.now held.now (view p.reply) p.effects.items) }
+    ensures plan { IfOk result (λ p.
+        IsPlan (command ask.now) given.now held.now (view p.reply) p.effects.items) }
     ensures kept { IsDataset held.now }
 {
     let mut effects = Effects::new(alloc);

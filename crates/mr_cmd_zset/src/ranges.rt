@@ -8,8 +8,8 @@ ghost use Rattle.mr_cmd_zset.specs.Ranges.{limited, ordered, pair_replies, pairs
 
 use crate::replies::score_bulk;
 use mr_bytes::window;
+use mr_cmd_shared::bulk;
 use mr_resp::Reply;
-use mr_room::bulk;
 use mr_zset::{Bound, Pair, ZSet};
 use mr_zset_options::{Limit, Order, RangeReply};
 use std::alloc::{AllocError, Global};
@@ -44,7 +44,8 @@ pub fn by_score(
     shape: RangeReply,
     set: &ZSet,
 ) -> Result<Reply, AllocError>
-    ensures { IfOk result (λ r. view r ≡ pairs_reply shape (scored min max order limit set.now)) }
+    ensures { IfOk result (λ r.
+        view r ≡ pairs_reply shape (scored min max order limit set.now)) }
 {
     let (first, past) = set.places(min, max);
     let count = past - first;
@@ -58,7 +59,8 @@ pub fn by_score(
 fn limited_places(limit: Option<Limit>, count: usize) -> (usize, usize)
     ensures ordered { result.0 ≤ result.1 }
     ensures within { result.1 ≤ count }
-    ensures same { (pairs : List (Bytes × ℤ)) → length pairs ≡ count → slice_range pairs result.0 result.1 ≡ limited limit pairs }
+    ensures same { (pairs : List (Bytes × ℤ)) → length pairs ≡ count →
+        slice_range pairs result.0 result.1 ≡ limited limit pairs }
 {
     let Some(limit) = limit else {
         return (0, count);
@@ -79,7 +81,9 @@ fn places_in(order: Order, start: usize, end: usize, count: usize) -> (usize, us
     requires within { end ≤ count }
     ensures as_many { result.0 + (end - start) ≡ result.1 }
     ensures within { result.1 ≤ count }
-    ensures same { (pairs : List (Bytes × ℤ)) → length pairs ≡ count → ordered order (slice_range pairs result.0 result.1) ≡ slice_range (ordered order pairs) start end }
+    ensures same { (pairs : List (Bytes × ℤ)) → length pairs ≡ count →
+        ordered order (slice_range pairs result.0 result.1) ≡
+        slice_range (ordered order pairs) start end }
 {
     match order {
         Order::Ascending => (start, end),
@@ -94,7 +98,8 @@ fn listed(
     order: Order,
     shape: RangeReply,
 ) -> Result<Reply, AllocError>
-    ensures { IfOk result (λ r. view r ≡ pairs_reply shape (ordered order (map shown pairs.now))) }
+    ensures { IfOk result (λ r.
+        view r ≡ pairs_reply shape (ordered order (map shown pairs.now))) }
 {
     match order {
         Order::Ascending => forward(alloc, pairs, shape),
@@ -142,7 +147,8 @@ fn push_pair(
     shape: RangeReply,
     replies: &mut Vec<Reply>,
 ) -> Result<(), AllocError>
-    ensures { OnOk result (map view replies.new.items ≡ map view replies.old.items ++ pair_replies shape (shown pair.now)) }
+    ensures { OnOk result (map view replies.new.items ≡
+        map view replies.old.items ++ pair_replies shape (shown pair.now)) }
 {
     replies.push(bulk(alloc, pair.member)?)?;
     match shape {

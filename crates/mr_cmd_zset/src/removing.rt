@@ -5,10 +5,10 @@ ghost use Rattle.std.specs.FinMap.{keys};
 ghost use Rattle.mr_resp.specs.ReplyView.{view};
 ghost use Rattle.mr_bytes.specs.Window.{window_of, windowed};
 ghost use Rattle.mr_zset.specs.Pairs.{pairs_of, shown};
-ghost use Rattle.mr_entries.specs.Collections.{without_scores};
+ghost use Rattle.mr_keyspace.specs.Collections.{without_scores};
 ghost use Rattle.mr_effect.specs.declared.effect.Effect.TheVariants as made;
-ghost use Rattle.mr_entries.specs.Cuts.{cut};
-ghost use Rattle.mr_room.specs.Taken.{texts};
+ghost use Rattle.mr_keyspace.specs.Cuts.{cut};
+ghost use Rattle.mr_cmd_shared.specs.Taken.{texts};
 ghost use Rattle.mr_cmd_zset.specs.Scores.{number, pairs_in, lost, Makes};
 ghost use Rattle.mr_cmd_zset.specs.Removing.{members_of, zrem, zremrangebyrank, zremrangebyscore, as_set, take_pairs};
 
@@ -16,8 +16,8 @@ use crate::grouping::{push_all, push_lost, push_lost_alone};
 use crate::ranges::forward;
 use mr_arguments::{Argument, Words};
 use mr_bytes::window;
+use mr_cmd_shared::{Effects, count};
 use mr_resp::Reply;
-use mr_room::{Effects, count};
 use mr_zset::{Bound, Pair, ZSet};
 use mr_zset_options::{Order, RangeReply};
 use std::alloc::{AllocError, Global};
@@ -30,7 +30,8 @@ pub fn zrem(
     set: &ZSet,
     effects: &mut Effects,
 ) -> Result<Reply, AllocError>
-    ensures { IfOk result (λ r. Makes (zrem key.now members.now set.now) (view r) effects.old effects.new) }
+    ensures { IfOk result (λ r.
+        Makes (zrem key.now members.now set.now) (view r) effects.old effects.new) }
 {
     let lost = named_there(alloc, members, set)?;
     push_lost(alloc, key, &lost, effects)?;
@@ -43,7 +44,8 @@ fn named_there<'a>(
     members: &Words<'a, '_>,
     set: &ZSet,
 ) -> Result<Vec<&'a [u8]>, AllocError>
-    ensures { IfOk result (λ there. texts there.items ≡ lost set.now (without_scores members.now set.now)) }
+    ensures { IfOk result (λ there.
+        texts there.items ≡ lost set.now (without_scores members.now set.now)) }
 {
     let mut there = Vec::new(alloc);
     for word in members.as_slice() {
@@ -73,7 +75,8 @@ pub fn zremrangebyrank(
     set: &ZSet,
     effects: &mut Effects,
 ) -> Result<Reply, AllocError>
-    ensures { IfOk result (λ r. Makes (zremrangebyrank key.now first last set.now) (view r) effects.old effects.new) }
+    ensures { IfOk result (λ r.
+        Makes (zremrangebyrank key.now first last set.now) (view r) effects.old effects.new) }
 {
     if let Some(pair) = only_pair(set, first, last) {
         push_lost_alone(alloc, key, pair.member, effects)?;
@@ -86,7 +89,11 @@ pub fn zremrangebyrank(
 
 /// The pair between two indexes, both included, if it is the only one.
 fn only_pair(set: &ZSet, first: i64, last: i64) -> Option<Pair<'_>>
-    ensures { MatchOption result (length (windowed (window_of first last (finite.len set.now)) (pairs_of set.now)) ≢ 1) (λ pair. windowed (window_of first last (finite.len set.now)) (pairs_of set.now) ≡ shown pair ∷ []) }
+    ensures { MatchOption result
+        (length (windowed (window_of first last (finite.len set.now)) (pairs_of set.now)) ≢
+        1) (λ pair.
+        windowed (window_of first last (finite.len set.now)) (pairs_of set.now) ≡
+        shown pair ∷ []) }
 {
     match window(first, last, set.len()) {
         Some((first, last)) if first == last => set.nth(first),
@@ -98,7 +105,8 @@ fn only_pair(set: &ZSet, first: i64, last: i64) -> Option<Pair<'_>>
 fn places_at(set: &ZSet, first: i64, last: i64) -> (usize, usize)
     ensures ordered { result.0 ≤ result.1 }
     ensures within { result.1 ≤ finite.len set.now }
-    ensures range { windowed (window_of first last (finite.len set.now)) (pairs_of set.now) ≡ slice_range (pairs_of set.now) result.0 result.1 }
+    ensures range { windowed (window_of first last (finite.len set.now)) (pairs_of set.now) ≡
+        slice_range (pairs_of set.now) result.0 result.1 }
 {
     match window(first, last, set.len()) {
         Some((first, last)) => (first, last + 1),
@@ -115,7 +123,8 @@ pub fn zremrangebyscore(
     set: &ZSet,
     effects: &mut Effects,
 ) -> Result<Reply, AllocError>
-    ensures { IfOk result (λ r. Makes (zremrangebyscore key.now min max set.now) (view r) effects.old effects.new) }
+    ensures { IfOk result (λ r.
+        Makes (zremrangebyscore key.now min max set.now) (view r) effects.old effects.new) }
 {
     let (first, past) = set.places(min, max);
     let reply = remove_places(alloc, key, first, past, set, effects)?;
@@ -134,8 +143,13 @@ fn remove_places(
 ) -> Result<Reply, AllocError>
     requires ordered { first ≤ past }
     requires within { past ≤ finite.len set.now }
-    ensures reply { IfOk result (λ r. view r ≡ number (finite.len (as_set (members_of (slice_range (pairs_of set.now) first past))))) }
-    ensures effects { OnOk result (effects.new ≡ effects.old ++ map (made.RemoveScores key.now) (cut (keys (as_set (members_of (slice_range (pairs_of set.now) first past)))))) }
+    ensures reply { IfOk result (λ r.
+        view r ≡ number
+        (finite.len (as_set (members_of (slice_range (pairs_of set.now) first past))))) }
+    ensures effects { OnOk result (effects.new ≡
+        effects.old ++
+        map (made.RemoveScores key.now)
+        (cut (keys (as_set (members_of (slice_range (pairs_of set.now) first past)))))) }
 {
     if past - first == set.len() {
         push_all(alloc, key, set, effects)?;
@@ -152,8 +166,11 @@ fn remove_pairs(
     pairs: &[Pair<'_>],
     effects: &mut Effects,
 ) -> Result<Reply, AllocError>
-    ensures reply { IfOk result (λ r. view r ≡ number (finite.len (as_set (members_of (map shown pairs.now))))) }
-    ensures effects { OnOk result (effects.new ≡ effects.old ++ map (made.RemoveScores key.now) (cut (keys (as_set (members_of (map shown pairs.now)))))) }
+    ensures reply { IfOk result (λ r.
+        view r ≡ number (finite.len (as_set (members_of (map shown pairs.now))))) }
+    ensures effects { OnOk result (effects.new ≡
+        effects.old ++
+        map (made.RemoveScores key.now) (cut (keys (as_set (members_of (map shown pairs.now)))))) }
 {
     let removed = push_members(alloc, key, pairs, effects)?;
     Ok(count(removed))
@@ -166,9 +183,12 @@ fn push_members(
     pairs: &[Pair<'_>],
     effects: &mut Effects,
 ) -> Result<usize, AllocError>
-    ensures removed { IfOk result (λ n. n ≡ finite.len (as_set (members_of (map shown pairs.now)))) }
+    ensures removed { IfOk result (λ n.
+        n ≡ finite.len (as_set (members_of (map shown pairs.now)))) }
     ensures small { IfOk result (λ n. n < 2 ^ 63) }
-    ensures effects { OnOk result (effects.new ≡ effects.old ++ map (made.RemoveScores key.now) (cut (keys (as_set (members_of (map shown pairs.now)))))) }
+    ensures effects { OnOk result (effects.new ≡
+        effects.old ++
+        map (made.RemoveScores key.now) (cut (keys (as_set (members_of (map shown pairs.now)))))) }
 {
     if let [pair] = pairs {
         // one member needs no order
@@ -182,7 +202,8 @@ fn push_members(
 
 /// The members of pairs in byte order, each once. They are not copied.
 fn members_of<'d>(alloc: Global, pairs: &[Pair<'d>]) -> Result<Vec<&'d [u8]>, AllocError>
-    ensures { IfOk result (λ members. texts members.items ≡ keys (as_set (members_of (map shown pairs.now)))) }
+    ensures { IfOk result (λ members.
+        texts members.items ≡ keys (as_set (members_of (map shown pairs.now)))) }
 {
     let mut members = Vec::with_capacity(alloc, pairs.len())?;
     for pair in pairs {
@@ -200,7 +221,8 @@ pub fn take_pairs(
     set: &ZSet,
     effects: &mut Effects,
 ) -> Result<Reply, AllocError>
-    ensures { IfOk result (λ r. Makes (take_pairs key.now order count set.now) (view r) effects.old effects.new) }
+    ensures { IfOk result (λ r.
+        Makes (take_pairs key.now order count set.now) (view r) effects.old effects.new) }
 {
     take_from(alloc, key, order, count.unwrap_or(1), set, effects)
 }
@@ -214,7 +236,8 @@ fn take_from(
     set: &ZSet,
     effects: &mut Effects,
 ) -> Result<Reply, AllocError>
-    ensures { IfOk result (λ r. Makes (take_pairs key.now order (Some count) set.now) (view r) effects.old effects.new) }
+    ensures { IfOk result (λ r.
+        Makes (take_pairs key.now order (Some count) set.now) (view r) effects.old effects.new) }
 {
     let pairs = first_pairs(alloc, order, count, set)?;
     if pairs.len() == set.len() {
@@ -233,7 +256,8 @@ fn first_pairs(
     count: usize,
     set: &ZSet,
 ) -> Result<Vec<Pair<'_>>, AllocError>
-    ensures { IfOk result (λ pairs. map shown pairs.items ≡ take count (pairs_in order set.now)) }
+    ensures { IfOk result (λ pairs.
+        map shown pairs.items ≡ take count (pairs_in order set.now)) }
 {
     let len = set.len();
     let count = count.min(len);

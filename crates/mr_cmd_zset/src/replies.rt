@@ -2,14 +2,14 @@
 ghost use Rattle.std.specs.Prelude.{◌≡◌, IfOk, option_copied};
 ghost use Rattle.std.specs.FinMap as map;
 ghost use Rattle.mr_resp.specs.ReplyView.{view};
-ghost use Rattle.mr_entries.specs.Steps.{sorted_sets, held};
+ghost use Rattle.mr_keyspace.specs.Steps.{sorted_sets, held};
 ghost use Rattle.mr_cmd_zset.specs.Scores.{score_reply};
 ghost use Rattle.mr_cmd_zset.specs.Adding.{out_of_range};
 
 use itoa::Buffer;
+use mr_cmd_shared::bulk;
 use mr_data::{Entry, Value};
 use mr_resp::Reply;
-use mr_room::bulk;
 use mr_zset::ZSet;
 use std::alloc::{AllocError, Global};
 use std::borrow::CowSlice;

@@ -8,8 +8,8 @@ ghost use Rattle.mr_cmd_zset.specs.Telling.{counted_from, found_score, found_sco
 
 use crate::replies::score_bulk;
 use mr_arguments::{Argument, Words};
+use mr_cmd_shared::count;
 use mr_resp::Reply;
-use mr_room::count;
 use mr_zset::{Bound, ZSet};
 use mr_zset_options::Order;
 use std::alloc::{AllocError, Global};

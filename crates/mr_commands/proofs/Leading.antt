@@ -6,7 +6,7 @@ use Rattle.std.specs.Prelude.{ℤ}
 use Rattle.mr_resp.specs.Replies.{Tree}
 use Rattle.mr_resp.specs.Command.{IsCommandText}
 use Rattle.mr_resp.specs.Usual.{commands}
-use Rattle.mr_entries.specs.Dataset.{Dataset}
+use Rattle.mr_keyspace.specs.Dataset.{Dataset}
 use Rattle.mr_data.specs.Meaning.{apply_all}
 use Rattle.mr_effect.specs.Spelling.{text, IsShort}
 use Rattle.mr_effect.specs.declared.effect.Effect.{Effect}
@@ -19,7 +19,7 @@ use Rattle.mr_ask.specs.declared.ask.Ask.TheVariants as ask
 use Rattle.mr_cmd_server.specs.declared.server_ask.ServerAsk.TheVariants as server
 use Rattle.mr_cmd_server.specs.declared.question.Question.{Question}
 use Rattle.mr_commands.specs.declared.requests.Answer.{Answer}
-use Rattle.mr_room.specs.Commands.{Command, effects, after, IsPlan, IsFaithful, HasCommandTexts}
+use Rattle.mr_cmd_shared.specs.Commands.{Command, effects, after, IsPlan, IsFaithful, HasCommandTexts}
 
 pub planned_leads : (c : Command) (now : ℤ) (m : Dataset) (r : Tree) (list : List Effect) → IsPlan c now m r list → IsFaithful c now m → apply_all list m ≡ Some (after c now m)
 planned_leads c now m r list p f = ap (λ (xs : List Effect). apply_all xs m) p.effects_are ∙ f.leads

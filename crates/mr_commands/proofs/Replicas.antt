@@ -2,7 +2,7 @@
 use Rattle.std.proofs.Common.{◌≡◌, ℕ, List, [], Bool, true, subst}
 use Rattle.std.specs.Prelude.{Result, Ok, Err}
 use Rattle.mr_resp.specs.Replies.{Tree}
-use Rattle.mr_entries.specs.Dataset.{Dataset}
+use Rattle.mr_keyspace.specs.Dataset.{Dataset}
 use Rattle.mr_data.specs.declared.given.Given.{Given}
 use Rattle.mr_effect.specs.declared.effect.Effect.{Effect}
 use Rattle.mr_ask.specs.Asks.{asked}

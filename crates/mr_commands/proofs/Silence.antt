@@ -1,12 +1,12 @@
 -- A command that is no write has no effect of its own.
 use Rattle.std.proofs.Common.{◌≡◌, ℕ, List, [], true, false, Option, Some, None, refl}
 use Rattle.mr_resp.specs.Replies.{Tree}
-use Rattle.mr_entries.specs.Dataset.{Dataset}
-use Rattle.mr_entries.specs.Steps.{Kind, held, hashes, lists, sets, sorted_sets}
-use Rattle.mr_entries.specs.declared.value.Entry.{Entry}
+use Rattle.mr_keyspace.specs.Dataset.{Dataset}
+use Rattle.mr_keyspace.specs.Steps.{Kind, held, hashes, lists, sets, sorted_sets}
+use Rattle.mr_keyspace.specs.declared.value.Entry.{Entry}
 use Rattle.mr_data.specs.declared.given.Given.{Given}
-use Rattle.mr_room.specs.Collections.{Change, replied, changed}
-use Rattle.mr_room.specs.Commands.{own_effects}
+use Rattle.mr_cmd_shared.specs.Collections.{Change, replied, changed}
+use Rattle.mr_cmd_shared.specs.Commands.{own_effects}
 use Rattle.mr_cmd_list.specs.Lists.{of_list}
 use Rattle.mr_ask.specs.declared.ask.Ask.TheVariants as ask
 use Rattle.mr_cmd_string.specs.declared.text_ask.TextAsk.{TextAsk}

@@ -5,8 +5,8 @@ use Rattle.mr_data.specs.declared.given.Given.{Given}
 use Rattle.mr_resp.specs.Replies.{error}
 use Rattle.mr_arguments.specs.Faults.{fault_text}
 use Rattle.mr_arguments.specs.declared.fault.AskFault.TheVariants.{Unknown}
-use Rattle.mr_room.specs.Outcomes.{answered}
-use Rattle.mr_room.specs.Commands.{Command, on_none}
+use Rattle.mr_cmd_shared.specs.Outcomes.{answered}
+use Rattle.mr_cmd_shared.specs.Commands.{Command, on_none}
 use Rattle.mr_cmd_node.specs.declared.node_ask.NodeAsk.{NodeAsk}
 use Rattle.mr_cmd_string.specs.Carried.{text_words}
 use Rattle.mr_ask.specs.declared.ask.Ask.{Ask}

@@ -4,7 +4,7 @@ use Rattle.mr_resp.specs.Replies.{Tree, error}
 use Rattle.mr_resp.specs.ReplyView.{view}
 use Rattle.mr_resp.specs.Command.{IsCommandText}
 use Rattle.mr_resp.specs.Usual.{commands}
-use Rattle.mr_entries.specs.Dataset.{Dataset}
+use Rattle.mr_keyspace.specs.Dataset.{Dataset}
 use Rattle.mr_data.specs.Meaning.{apply_all}
 use Rattle.mr_data.specs.declared.given.Given.{Given}
 use Rattle.mr_effect.specs.Spelling.{text, IsShort}
@@ -18,7 +18,7 @@ use Rattle.mr_cmd_server.specs.declared.question.Question.{Question}
 use Rattle.mr_cmd_node.specs.declared.node_ask.NodeAsk.{NodeAsk}
 use Rattle.mr_cmd_server.specs.Questions.{question_of}
 use Rattle.mr_arguments.specs.declared.fault.AskFault.{AskFault}
-use Rattle.mr_room.specs.Commands.{IsPlan, answer, after}
+use Rattle.mr_cmd_shared.specs.Commands.{IsPlan, answer, after}
 use Rattle.mr_commands.specs.PlannedCommands.{command_of}
 use Rattle.mr_commands.specs.Writes.{writes}
 use Rattle.mr_commands.specs.declared.requests.Answer.{Answer}

@@ -5,10 +5,10 @@ use Rattle.mr_resp.specs.Replies.{Tree, simple, error}
 use Rattle.mr_resp.specs.ReplyView.{view}
 use Rattle.mr_resp.specs.Request.{IsRequest}
 use Rattle.mr_resp.specs.Usual.{usual}
-use Rattle.mr_entries.specs.Dataset.{Dataset}
+use Rattle.mr_keyspace.specs.Dataset.{Dataset}
 use Rattle.mr_data.specs.declared.given.Given.{Given}
 use Rattle.mr_effect.specs.declared.effect.Effect.{Effect}
-use Rattle.mr_entries.specs.Changes.{NeedsNoMemory}
+use Rattle.mr_keyspace.specs.Changes.{NeedsNoMemory}
 use Rattle.mr_arguments.specs.Faults.{fault_text}
 use Rattle.mr_arguments.specs.declared.fault.AskFault.{AskFault}
 use Rattle.mr_arguments.specs.declared.fault.AskFault.TheVariants as fault

@@ -1,6 +1,6 @@
 -- Which commands are writes: those that may have an effect of their own. The others only tell.
 use Rattle.std.specs.Prelude.{◌≡◌, [], Bool, true, false}
-use Rattle.mr_entries.specs.Dataset.{Dataset}
+use Rattle.mr_keyspace.specs.Dataset.{Dataset}
 use Rattle.mr_data.specs.declared.given.Given.{Given}
 use Rattle.mr_ask.specs.declared.ask.Ask.{Ask}
 use Rattle.mr_ask.specs.declared.ask.Ask.TheVariants as ask
@@ -16,7 +16,7 @@ use Rattle.mr_cmd_set.specs.declared.set_ask.SetAsk.{SetAsk}
 use Rattle.mr_cmd_set.specs.declared.set_ask.SetAsk.TheVariants as set
 use Rattle.mr_cmd_zset.specs.declared.zset_ask.ZSetAsk.{ZSetAsk}
 use Rattle.mr_cmd_zset.specs.declared.zset_ask.ZSetAsk.TheVariants as zset
-use Rattle.mr_room.specs.Commands.{own_effects}
+use Rattle.mr_cmd_shared.specs.Commands.{own_effects}
 use Rattle.mr_commands.specs.PlannedCommands.{command_of}
 
 -- on strings: all but GET, STRLEN, GETRANGE and MGET

@@ -44,13 +44,16 @@ pub fn plan_words(
     given: Given,
 ) -> Result<Answer, AllocError>
     requires { 0 < length words.now }
-    ensures answer { IfOk result (λ a. IsAnswer replica (map cow_slice_items words.now) given held.now a) }
+    ensures answer { IfOk result (λ a.
+        IsAnswer replica (map cow_slice_items words.now) given held.now a) }
 
     // The effects lead to what the command leaves.
-    ensures leads { IfOk result (λ a. IsTrue (list_all fits (map cow_slice_items words.now)) → Leads a held.now (left replica (map cow_slice_items words.now) given held.now)) }
+    ensures leads { IfOk result (λ a. IsTrue (list_all fits (map cow_slice_items words.now)) →
+        Leads a held.now (left replica (map cow_slice_items words.now) given held.now)) }
 
     // The effects' texts are command texts.
-    ensures texts { IfOk result (λ a. IsTrue (list_all fits (map cow_slice_items words.now)) → length words.now ≤ commands.words → HasTexts a) }
+    ensures texts { IfOk result (λ a. IsTrue (list_all fits (map cow_slice_items words.now)) →
+        length words.now ≤ commands.words → HasTexts a) }
 {
     match read(words) {
         Ok(ask) => answer_to(alloc, held, replica, &ask, given),
@@ -71,7 +74,8 @@ pub fn answer_to(
     given: Given,
 ) -> Result<Answer, AllocError>
     ensures answer { IfOk result (λ a. IsAnswerTo replica ask.now given held.now a) }
-    ensures leads { IfOk result (λ a. AskFits ask.now → Leads a held.now (left_by (Ok ask.now) replica given held.now)) }
+    ensures leads { IfOk result (λ a. AskFits ask.now →
+        Leads a held.now (left_by (Ok ask.now) replica given held.now)) }
     ensures texts { IfOk result (λ a. AskFits ask.now → HasRoom ask.now → HasTexts a) }
 {
     if quits(ask) {

@@ -1,3 +1,4 @@
 pub mod Lends
+pub mod Patience
 pub mod State
 pub mod Table

@@ -14,7 +14,7 @@ pub record ConnectionState : Type 0 where
 abbrev pub connection_code : Coded ConnectionState
 connection_code = code_by (Option LinkId × List ℕ) (coded× (coded_option coded_id) (coded_list coded_ℕ)) (λ c. (c.link, c.waiting)) (λ p. record { link = p.0; waiting = p.1 }) (λ _. refl)
 
--- so many bytes wait at most where more is read
+-- so many bytes wait at most for a client of which more is read
 abbrev pub most_kept : ℕ
 most_kept = 15728640
 

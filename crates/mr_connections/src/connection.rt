@@ -13,13 +13,13 @@ pub const PIECE: usize = 65_536;
 /// The first read of a connection in a turn gives no more.
 pub const FIRST_PIECE: usize = 1_024;
 
-/// A read of a connection whose replies are large gives no more, and none of one for which much waits.
+/// A read of a client whose replies are large gives no more, and none of one for which much waits.
 const LEAST_PIECE: usize = 64;
 
-/// Where more bytes wait, little more is read at once.
+/// Where more bytes wait for a client, little more is read of it at once.
 const MUCH_KEPT: usize = 1_048_576;
 
-/// Where more bytes wait, nothing more is read. Three requests fit into the least piece, and three values of 16 MiB behind
+/// Where more bytes wait for a client, nothing more is read of it. Three requests fit into the least piece, and three values of 16 MiB behind
 /// these bytes are no more than may be left unread. Of larger values one alone may be more.
 const MOST_KEPT: usize = 15_728_640;
 
@@ -29,7 +29,7 @@ pub struct Connection {
     /// None once the node's end is closed: then what waits is still written, and nothing is read.
     link: Option<LinkId>,
     unsent: Unsent,
-    /// So many bytes of it are read at once at most. They get fewer while its replies are large.
+    /// So many bytes of a client are read at once at most. They get fewer while its replies are large.
     piece: usize,
     /// It is among those that are written to next.
     noted: bool,
@@ -89,7 +89,7 @@ impl Connection {
         self.unsent.is_too_much()
     }
 
-    /// Whether so much waits that nothing more is read of it.
+    /// Whether so much waits that nothing more is read of a client.
     pub fn is_full(&self) -> bool
         ensures { IsTrue result ↔ (most_kept < length self.now.waiting) }
     {
@@ -103,7 +103,7 @@ impl Connection {
         self.link.is_none() && self.unsent.is_empty()
     }
 
-    /// So many bytes of it are read at once at most.
+    /// So many bytes of a client are read at once at most.
     pub fn piece(&self) -> usize {
         if self.has_much() {
             LEAST_PIECE

@@ -152,7 +152,8 @@ impl Connections {
 
     /// A connection whose end the node has closed and for which nothing waits, if there is one.
     pub fn next_done(&self) -> Option<LinkId>
-        ensures some { IfSome result (λ socket. map.get self.now socket ≡ Some (record { link = None; waiting = [] })) }
+        ensures some { IfSome result (λ socket.
+            map.get self.now socket ≡ Some (record { link = None; waiting = [] })) }
         ensures none { IfNone result (NoneDone self.now) }
     {
         self.done.last().copied()
@@ -318,8 +319,10 @@ impl Connections {
 
 /// Lists a connection that is done.
 fn list_done(rows: &Table<Connection>, done: &mut Vec<LinkId>, socket: LinkId)
-    requires { is_done_at (map.get rows.now socket) ≡ true → length done.old.items < vec_capacity done.old }
-    ensures items { done.new.items ≡ listing (is_done_at (map.get rows.now socket)) socket done.old.items }
+    requires { is_done_at (map.get rows.now socket) ≡ true →
+        length done.old.items < vec_capacity done.old }
+    ensures items { done.new.items ≡
+        listing (is_done_at (map.get rows.now socket)) socket done.old.items }
     ensures room { vec_capacity done.old ≤ vec_capacity done.new }
 {
     if one::is_done(rows, socket) {
@@ -330,7 +333,9 @@ fn list_done(rows: &Table<Connection>, done: &mut Vec<LinkId>, socket: LinkId)
 /// Takes a connection out of those that are done.
 fn unlist(done: &mut Vec<LinkId>, socket: LinkId)
     requires { AreOnce done.old.items }
-    ensures others { (k : LinkId) → is_among k done.new.items ≡ cond (eq_by_cmp id_cmp k socket) false (is_among k done.old.items) }
+    ensures others { (k : LinkId) →
+        is_among k done.new.items ≡
+        cond (eq_by_cmp id_cmp k socket) false (is_among k done.old.items) }
     ensures once { AreOnce done.new.items }
     ensures room { vec_capacity done.new ≡ vec_capacity done.old }
 {
@@ -343,7 +348,8 @@ fn unlist(done: &mut Vec<LinkId>, socket: LinkId)
 
 /// Drops a socket, wherever it stands.
 fn drop_socket(sockets: &mut Vec<LinkId>, socket: LinkId)
-    ensures items { sockets.new.items ≡ filter (λ s. not (eq_by_cmp id_cmp s socket)) sockets.old.items }
+    ensures items { sockets.new.items ≡
+        filter (λ s. not (eq_by_cmp id_cmp s socket)) sockets.old.items }
     ensures room { vec_capacity sockets.new ≡ vec_capacity sockets.old }
 {
     sockets.retain(|name| is_other(*name, socket));
@@ -358,7 +364,9 @@ fn is_other(name: LinkId, socket: LinkId) -> bool
 
 /// Whether this is the last of some sockets.
 fn is_last(sockets: &[LinkId], socket: LinkId) -> bool
-    ensures { result ≡ true → (0 < length sockets.now) × (slice_index_or sockets.now (length sockets.now - 1) socket ≡ socket) }
+    ensures { result ≡ true →
+        (0 < length sockets.now) ×
+        (slice_index_or sockets.now (length sockets.now - 1) socket ≡ socket) }
 {
     match sockets.last() {
         Some(last) => *last == socket,

@@ -172,7 +172,8 @@ fn entry_mut<T>(place: &mut Option<Entry<T>>) -> &mut Entry<T>
 /// Makes as many places as it takes for this one.
 fn fill_to<T: Drop>(places: &mut Vec<Option<Entry<T>>>, place: usize) -> Result<(), AllocError>
     ensures room { OnOk result (place < length places.new.items) }
-    ensures same { (k : ℕ) → slice_index_or places.new.items k None ≡ slice_index_or places.old.items k None }
+    ensures same { (k : ℕ) →
+        slice_index_or places.new.items k None ≡ slice_index_or places.old.items k None }
 {
     while places.len() <= place {
         places.push(None)?;

@@ -59,7 +59,8 @@ fn behind_first<'a>(mut words: Vec<CowSlice<'a, u8>>) -> Vec<CowSlice<'a, u8>>
 /// The node that the first word names, where there are others behind it.
 fn first_place(words: &[CowSlice<'_, u8>]) -> Option<Place>
     ensures some { IfSome result (IsPlaced (map cow_slice_items words.now)) }
-    ensures none { IfNone result ((place : PlaceValue) → ¬ (IsPlaced (map cow_slice_items words.now) place)) }
+    ensures none { IfNone result ((place : PlaceValue) →
+        ¬ (IsPlaced (map cow_slice_items words.now) place)) }
 {
     match words {
         [first, _, ..] => Place::named(first.as_slice()),

@@ -18,7 +18,8 @@ const NODE: &[u8] = b"node";
 /// The node that a request to follow names in place of an address.
 pub fn node_named(words: &[CowSlice<'_, u8>]) -> Option<Place>
     ensures some { IfSome result (λ place. NamesNode (map cow_slice_items words.now) place) }
-    ensures none { IfNone result ((place : PlaceValue) → ¬ (NamesNode (map cow_slice_items words.now) place)) }
+    ensures none { IfNone result ((place : PlaceValue) →
+        ¬ (NamesNode (map cow_slice_items words.now) place)) }
 {
     match words {
         [name, what, which] => {
@@ -54,7 +55,9 @@ pub fn with_address<'a>(
     mut words: Vec<CowSlice<'a, u8>>,
     port: u16,
 ) -> Result<Vec<CowSlice<'a, u8>>, AllocError>
-    ensures { IfOk result (λ sent. map cow_slice_items sent.items ≡ take 1 (map cow_slice_items words.entry.items) ++ host ∷ decimal port ∷ []) }
+    ensures { IfOk result (λ sent.
+        map cow_slice_items sent.items ≡
+        take 1 (map cow_slice_items words.entry.items) ++ host ∷ decimal port ∷ []) }
 {
     let mut digits = Buffer::new();
     let port = Vec::from_slice(alloc, digits.format(port).as_bytes())?;

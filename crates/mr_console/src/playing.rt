@@ -24,7 +24,8 @@ pub fn play<N: Nodes, R: BufRead, W: Write>(
     input: &mut R,
     output: &mut W,
 ) -> Result<(), TrioFault>
-    ensures { PlaysScript (R.remaining input.old) (R.remaining input.new) (W.contents output.old) (W.contents output.new) result }
+    ensures { PlaysScript (R.remaining input.old) (R.remaining input.new) (W.contents output.old)
+        (W.contents output.new) result }
 {
     match play_all(alloc, nodes, input, output) {
         Ok(()) => tell_ends(alloc, nodes, output),
@@ -43,7 +44,8 @@ fn play_all<N: Nodes, R: BufRead, W: Write>(
     input: &mut R,
     output: &mut W,
 ) -> Result<(), TrioFault>
-    ensures { Plays (R.remaining input.old) (R.remaining input.new) (W.contents output.old) (W.contents output.new) result }
+    ensures { Plays (R.remaining input.old) (R.remaining input.new) (W.contents output.old)
+        (W.contents output.new) result }
 {
     let mut line = Vec::new(alloc);
     for _line in 0..u64::MAX {
@@ -134,8 +136,10 @@ fn tell_end<N: Nodes, W: Write>(
 
 /// Writes, and what was written goes out.
 fn tell<W: Write>(output: &mut W, bytes: &[u8]) -> Result<(), TrioFault>
-    ensures written { OnOk result (Appends (W.contents output.old) (W.contents output.new) bytes.now) }
-    ensures begun { OnErr result (IsBegun (W.contents output.old) (W.contents output.new) bytes.now) }
+    ensures written { OnOk result
+        (Appends (W.contents output.old) (W.contents output.new) bytes.now) }
+    ensures begun { OnErr result
+        (IsBegun (W.contents output.old) (W.contents output.new) bytes.now) }
     ensures fault { IfErr result (λ fault. fault ≡ TrioFault.Stream) }
 {
     if write_out(output, bytes).is_err() {

@@ -25,8 +25,10 @@ pub enum InputFault {
 
 /// Takes the next line of an input, in the place of what the buffer had. What stands behind the last line feed is no line.
 pub fn next_line<R: BufRead>(input: &mut R, line: &mut Vec<u8>) -> Result<NextLine, InputFault>
-    ensures took { IfOk result (λ next. Took next line.new.items (R.remaining input.old) (R.remaining input.new)) }
-    ensures failed { IfErr result (λ fault. TookSome line.new.items (R.remaining input.old) (R.remaining input.new)) }
+    ensures took { IfOk result (λ next.
+        Took next line.new.items (R.remaining input.old) (R.remaining input.new)) }
+    ensures failed { IfErr result (λ fault.
+        TookSome line.new.items (R.remaining input.old) (R.remaining input.new)) }
 {
     line.clear();
     match input.read_until(b'\n', line) {

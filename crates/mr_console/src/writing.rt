@@ -14,8 +14,10 @@ pub struct OutputFault;
 /// Writes once. None is written where the write was interrupted.
 fn write_some<W: Write>(output: &mut W, bytes: &[u8]) -> Result<usize, OutputFault>
     ensures within { IfOk result (λ n. n ≤ length bytes.now) }
-    ensures written { IfOk result (λ n. known.Appends (W.contents output.old) (W.contents output.new) (take n bytes.now)) }
-    ensures failed { OnErr result (known.Appends (W.contents output.old) (W.contents output.new) []) }
+    ensures written { IfOk result (λ n.
+        known.Appends (W.contents output.old) (W.contents output.new) (take n bytes.now)) }
+    ensures failed { OnErr result
+        (known.Appends (W.contents output.old) (W.contents output.new) []) }
 {
     match output.write(bytes) {
         Ok(0) => Err(OutputFault),
@@ -31,8 +33,10 @@ fn write_some<W: Write>(output: &mut W, bytes: &[u8]) -> Result<usize, OutputFau
 
 /// Writes all bytes, in as many writes as it takes. After a fault a beginning of them is written.
 pub fn write_out<W: Write>(output: &mut W, bytes: &[u8]) -> Result<(), OutputFault>
-    ensures written { OnOk result (known.Appends (W.contents output.old) (W.contents output.new) bytes.now) }
-    ensures begun { OnErr result (IsBegun (W.contents output.old) (W.contents output.new) bytes.now) }
+    ensures written { OnOk result
+        (known.Appends (W.contents output.old) (W.contents output.new) bytes.now) }
+    ensures begun { OnErr result
+        (IsBegun (W.contents output.old) (W.contents output.new) bytes.now) }
 {
     let mut at = 0;
     for _write in 0..u64::MAX {

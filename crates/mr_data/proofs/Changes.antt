@@ -13,18 +13,18 @@ use Rattle.mr_effect.specs.declared.effect.Effect.{Effect}
 use Rattle.mr_effect.specs.declared.effect.Effect.TheVariants as effect
 use Rattle.mr_bytes.specs.declared.ends.End.{End}
 use Rattle.mr_bytes.specs.declared.ends.Side.{Side}
-use Rattle.mr_entries.specs.declared.value.Value.TheVariants as value
-use Rattle.mr_entries.specs.declared.value.Entry.{Entry}
-use Rattle.mr_entries.specs.Dataset.{Dataset}
+use Rattle.mr_keyspace.specs.declared.value.Value.TheVariants as value
+use Rattle.mr_keyspace.specs.declared.value.Entry.{Entry}
+use Rattle.mr_keyspace.specs.Dataset.{Dataset}
 use Rattle.mr_data.specs.Dataset.{IsWord, IsDataset, IsValue, IsLifetime}
-use Rattle.mr_entries.specs.Collections.{with_fields, without_fields, with_members, without_members, with_scores, without_scores, put_item, pushed, popped, end_item, turned, may_take, is_place_of, is_part_of, place_beside}
-use Rattle.mr_entries.specs.Steps.{without_deadline, deadline_of, hashes, lists, sets, sorted_sets, held, set_step, set_until_step, set_keeping_step, del_step, deadline_step, expire_step, persist_step, append_step, set_range_step, increase_step, set_fields_step, remove_fields_step, push_step, pop_step, set_item_step, insert_item_step, remove_items_step, trim_step, turn_step, add_members_step, remove_members_step, set_scores_step, remove_scores_step}
-use Rattle.mr_entries.specs.Changes.{at_key, change, with_texts, item_at, carry_item, move_item, has_member, carry_member, move_member}
-use Rattle.mr_entries.specs.Outcome.{Applies}
-use Rattle.mr_entries.specs.declared.fault.ApplyFault.{ApplyFault}
-use Rattle.mr_entries.specs.declared.fault.ApplyFault.TheVariants.{Refused, Memory}
+use Rattle.mr_keyspace.specs.Collections.{with_fields, without_fields, with_members, without_members, with_scores, without_scores, put_item, pushed, popped, end_item, turned, may_take, is_place_of, is_part_of, place_beside}
+use Rattle.mr_keyspace.specs.Steps.{without_deadline, deadline_of, hashes, lists, sets, sorted_sets, held, set_step, set_until_step, set_keeping_step, del_step, deadline_step, expire_step, persist_step, append_step, set_range_step, increase_step, set_fields_step, remove_fields_step, push_step, pop_step, set_item_step, insert_item_step, remove_items_step, trim_step, turn_step, add_members_step, remove_members_step, set_scores_step, remove_scores_step}
+use Rattle.mr_keyspace.specs.Changes.{at_key, change, with_texts, item_at, carry_item, move_item, has_member, carry_member, move_member}
+use Rattle.mr_keyspace.specs.Outcome.{Applies}
+use Rattle.mr_keyspace.specs.declared.fault.ApplyFault.{ApplyFault}
+use Rattle.mr_keyspace.specs.declared.fault.ApplyFault.TheVariants.{Refused, Memory}
 use Rattle.mr_data.proofs.Fitting.{FieldsFit, MembersFit, ScoresFit, ItemsFit, with_fields_fit, without_fields_fit, with_members_fit, without_members_fit, with_scores_fit, without_scores_fit, put_item_fits, pushed_fit, popped_fit, end_item_fits, inserted_fit, set_fit, range_fit, without_fit}
-use Rattle.mr_entries.proofs.Both.{first, second}
+use Rattle.mr_keyspace.proofs.Both.{first, second}
 use Rattle.mr_data.proofs.Datasets.{IsDataset-empty, Keeps, lifetime, at_key_keeps, on_keeps, held_suits, entry_at, hashes_suit, lists_suit, sets_suit, sorted_sets_suit}
 use Rattle.mr_data.proofs.TextChanges.{append_keeps, set_range_keeps, increase_keeps, with_texts_keeps, rename_keeps}
 

@@ -8,14 +8,14 @@ use Rattle.std.proofs.lemmas.Cmp.{nat_list_cmp_total}
 use Rattle.std.proofs.lemmas.List.Elements.{All-nil}
 use Rattle.std.proofs.lemmas.Bool.{eqb-false}
 use Rattle.mr_map.specs.Bytes.{Bytes, ByteMap, bytes_cmp}
-use Rattle.mr_entries.specs.Dataset.{Dataset, put_at}
+use Rattle.mr_keyspace.specs.Dataset.{Dataset, put_at}
 use Rattle.mr_data.specs.Dataset.{IsWord, IsDataset, IsEntry, IsValue, IsLifetime}
-use Rattle.mr_entries.specs.Steps.{Step, Kind, hashes, lists, sets, sorted_sets, on, held, entry_of, deadline_of}
-use Rattle.mr_entries.specs.Changes.{at_key}
-use Rattle.mr_entries.specs.declared.value.Value.{Value}
-use Rattle.mr_entries.specs.declared.value.Value.TheVariants as value
-use Rattle.mr_entries.specs.declared.value.Entry.{Entry}
-use Rattle.mr_entries.proofs.Maps.{same_key}
+use Rattle.mr_keyspace.specs.Steps.{Step, Kind, hashes, lists, sets, sorted_sets, on, held, entry_of, deadline_of}
+use Rattle.mr_keyspace.specs.Changes.{at_key}
+use Rattle.mr_keyspace.specs.declared.value.Value.{Value}
+use Rattle.mr_keyspace.specs.declared.value.Value.TheVariants as value
+use Rattle.mr_keyspace.specs.declared.value.Entry.{Entry}
+use Rattle.mr_keyspace.proofs.Maps.{same_key}
 use Rattle.mr_data.proofs.Fitting.{FieldsFit, no_fields, ItemsFit, MembersFit, no_members, ScoresFit, no_scores}
 
 -- what one key has was set to o

@@ -19,11 +19,11 @@ use Rattle.mr_zset.specs.Order.{in_order}
 use Rattle.mr_zset.specs.Pairs.{pair_cmp}
 use Rattle.mr_zset.proofs.Orders.{Above, Ascends, Ascends-in_order, IsPermutation-in_order, sorted_filter}
 use Rattle.mr_zset.proofs.PairLemmas.{pairs_total, exact_pair}
-use Rattle.mr_entries.specs.Dataset.{Dataset}
-use Rattle.mr_entries.specs.Steps.{deadline_of}
-use Rattle.mr_entries.specs.TimedKeys.{shown as entered, timed, timed_keys}
-use Rattle.mr_entries.specs.declared.timed_key.TimedKey.{TimedKey}
-use Rattle.mr_entries.specs.declared.value.Entry.{Entry}
+use Rattle.mr_keyspace.specs.Dataset.{Dataset}
+use Rattle.mr_keyspace.specs.Steps.{deadline_of}
+use Rattle.mr_keyspace.specs.TimedKeys.{shown as entered, timed, timed_keys}
+use Rattle.mr_keyspace.specs.declared.timed_key.TimedKey.{TimedKey}
+use Rattle.mr_keyspace.specs.declared.value.Entry.{Entry}
 use Rattle.mr_data.specs.Dataset.{IsDataset}
 use Rattle.mr_data.specs.declared.due.DueKey.{DueKey}
 use Rattle.mr_data.specs.Due.{deadline_at, if_expired, due, shown, HasWord}

@@ -9,9 +9,9 @@ use Rattle.std.specs.FinMap.Entries.{below_all}
 use Rattle.std.proofs.lemmas.Cmp.{nat_list_cmp_total}
 use Rattle.std.proofs.lemmas.Map.Lookups.{exact_bytes}
 use Rattle.mr_map.specs.Bytes.{Bytes, ByteMap, bytes_cmp}
-use Rattle.mr_entries.specs.Collections.{with_fields, with_members, with_scores}
-use Rattle.mr_entries.proofs.Maps.{same_key}
-use Rattle.mr_entries.proofs.Puts.{is_key_itself, is_key_symm}
+use Rattle.mr_keyspace.specs.Collections.{with_fields, with_members, with_scores}
+use Rattle.mr_keyspace.proofs.Maps.{same_key}
+use Rattle.mr_keyspace.proofs.Puts.{is_key_itself, is_key_symm}
 
 left : (a b : Bool) → T (a && b) → T a
 left true b h = tt

@@ -2,7 +2,7 @@
 use Rattle.std.proofs.Common.{◌≡◌, List, [], ◌∷◌, ◌++◌, Some, None, refl, ◌∙◌, ap}
 use Rattle.std.specs.Option.{option_and_then}
 use Rattle.mr_effect.specs.declared.effect.Effect.{Effect}
-use Rattle.mr_entries.specs.Dataset.{Dataset}
+use Rattle.mr_keyspace.specs.Dataset.{Dataset}
 use Rattle.mr_data.specs.Meaning.{apply, apply_all}
 
 pub apply_all-append : (es fs : List Effect) (m : Dataset) → apply_all (es ++ fs) m ≡ option_and_then (apply_all fs) (apply_all es m)

@@ -8,11 +8,11 @@ use Rattle.mr_bytes.specs.Words.{fits}
 use Rattle.mr_bytes.specs.declared.ends.End.{End}
 use Rattle.mr_effect.specs.Effects.{pair_fits, member_fits, has_score, is_some_of}
 use Rattle.mr_effect.specs.declared.effect.Effect.TheVariants as effect
-use Rattle.mr_entries.specs.Collections.{with_fields, with_members, with_scores, put_item, pushed}
-use Rattle.mr_entries.specs.Steps.{hashes, lists, sets, sorted_sets, set_fields_step, push_step, add_members_step, set_scores_step}
-use Rattle.mr_entries.specs.Changes.{change}
-use Rattle.mr_entries.proofs.Cutting.{IsGroup}
-use Rattle.mr_entries.proofs.Nonempty.{with_fields_some, with_members_some, with_scores_some, pushed_some}
+use Rattle.mr_keyspace.specs.Collections.{with_fields, with_members, with_scores, put_item, pushed}
+use Rattle.mr_keyspace.specs.Steps.{hashes, lists, sets, sorted_sets, set_fields_step, push_step, add_members_step, set_scores_step}
+use Rattle.mr_keyspace.specs.Changes.{change}
+use Rattle.mr_keyspace.proofs.Cutting.{IsGroup}
+use Rattle.mr_keyspace.proofs.Nonempty.{with_fields_some, with_members_some, with_scores_some, pushed_some}
 use Rattle.mr_effect.proofs.Appending.{length-pairs, length-scores}
 use Rattle.mr_effect.proofs.Texts.{short_effect}
 use Rattle.mr_data.proofs.Running.{IsStep, IsFold}

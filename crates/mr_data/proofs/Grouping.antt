@@ -7,8 +7,8 @@ use Rattle.std.proofs.lemmas.Bool.{eqb-true, eqb-false}
 use Rattle.std.proofs.lemmas.List.{take_all}
 use Rattle.mr_effect.specs.Spelling.{text, texts}
 use Rattle.mr_effect.specs.declared.effect.Effect.{Effect}
-use Rattle.mr_entries.specs.Cuts.{most_items, cut}
-use Rattle.mr_entries.proofs.Cutting.{cut_more}
+use Rattle.mr_keyspace.specs.Cuts.{most_items, cut}
+use Rattle.mr_keyspace.proofs.Cutting.{cut_more}
 
 less : (n m : ℕ) → m ≡ n + 1 → n < most_items → m ≢ most_items → m < most_items
 less n m grown room other = le-ne (omega (arith, grown, room)) other

@@ -4,12 +4,12 @@ use Rattle.std.specs.Prelude.{◌==◌}
 use Rattle.std.specs.FinMap.{get, len, empty_of_len}
 use Rattle.std.proofs.lemmas.Bool.{ne_eqb, eqb-true}
 use Rattle.mr_map.specs.Bytes.{Bytes, ByteMap}
-use Rattle.mr_entries.specs.Dataset.{Dataset}
+use Rattle.mr_keyspace.specs.Dataset.{Dataset}
 use Rattle.mr_data.specs.Dataset.{IsDataset, IsValue}
-use Rattle.mr_entries.specs.Steps.{hashes, lists, sets, sorted_sets, hash_of, list_of, set_of, sorted_set_of}
-use Rattle.mr_entries.specs.declared.value.Value.{Value}
-use Rattle.mr_entries.specs.declared.value.Value.TheVariants as value
-use Rattle.mr_entries.proofs.Nonempty.{no_elements}
+use Rattle.mr_keyspace.specs.Steps.{hashes, lists, sets, sorted_sets, hash_of, list_of, set_of, sorted_set_of}
+use Rattle.mr_keyspace.specs.declared.value.Value.{Value}
+use Rattle.mr_keyspace.specs.declared.value.Value.TheVariants as value
+use Rattle.mr_keyspace.proofs.Nonempty.{no_elements}
 use Rattle.mr_data.proofs.Running.{IsKind, IsKept}
 
 same_some : {X : Type 0} {x y : X} → Some x ≡ Some y → x ≡ y

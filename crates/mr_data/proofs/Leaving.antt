@@ -16,17 +16,17 @@ use Rattle.mr_bytes.specs.Words.{fits}
 use Rattle.mr_effect.specs.Effects.{words_fit, has_spelling, is_some_of}
 use Rattle.mr_effect.specs.declared.effect.Effect.{Effect}
 use Rattle.mr_effect.specs.declared.effect.Effect.TheVariants as effect
-use Rattle.mr_entries.specs.Dataset.{Dataset, put_at}
-use Rattle.mr_entries.specs.Collections.{without_scores}
-use Rattle.mr_entries.specs.Steps.{sorted_sets, sorted_set_of, entry_of, remove_scores_step}
-use Rattle.mr_entries.specs.Changes.{at_key, change}
-use Rattle.mr_entries.specs.Outcome.{Applies}
-use Rattle.mr_entries.specs.declared.value.Value.TheVariants as value
-use Rattle.mr_entries.specs.declared.value.Entry.{Entry}
-use Rattle.mr_entries.specs.declared.fault.ApplyFault.{ApplyFault}
-use Rattle.mr_entries.specs.declared.fault.ApplyFault.TheVariants.{Refused, Memory}
-use Rattle.mr_entries.proofs.Both.{first}
-use Rattle.mr_entries.proofs.Maps.{same_key, got, remove_insert}
+use Rattle.mr_keyspace.specs.Dataset.{Dataset, put_at}
+use Rattle.mr_keyspace.specs.Collections.{without_scores}
+use Rattle.mr_keyspace.specs.Steps.{sorted_sets, sorted_set_of, entry_of, remove_scores_step}
+use Rattle.mr_keyspace.specs.Changes.{at_key, change}
+use Rattle.mr_keyspace.specs.Outcome.{Applies}
+use Rattle.mr_keyspace.specs.declared.value.Value.TheVariants as value
+use Rattle.mr_keyspace.specs.declared.value.Entry.{Entry}
+use Rattle.mr_keyspace.specs.declared.fault.ApplyFault.{ApplyFault}
+use Rattle.mr_keyspace.specs.declared.fault.ApplyFault.TheVariants.{Refused, Memory}
+use Rattle.mr_keyspace.proofs.Both.{first}
+use Rattle.mr_keyspace.proofs.Maps.{same_key, got, remove_insert}
 use Rattle.mr_data.specs.Dataset.{IsDataset}
 use Rattle.mr_data.specs.Meaning.{apply, apply_all}
 use Rattle.mr_data.specs.Whole.{names, TakesFirst, TakesMore, TakeAll}

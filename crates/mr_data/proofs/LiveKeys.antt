@@ -1,5 +1,5 @@
 -- How many keys aren't expired.
-use Rattle.std.proofs.Common.{◌≡◌, ◌+◌, ◌<◌, ◌^◌, ℕ, suc, ℤ, List, [], ◌∷◌, ◌++◌, map, length, Bool, true, false, cond, Option, Some, None, refl, sym, ◌∙◌, ap, subst, arith}
+use Rattle.std.proofs.Common.{◌≡◌, ◌+◌, ◌-◌, ◌≤◌, ℕ, suc, ℤ, List, [], ◌∷◌, ◌++◌, map, length, true, false, Option, Some, None, refl, sym, ap, subst, arith}
 use Rattle.std.specs.Prelude.{filter, int_le, is_some, if◌then◌else◌}
 use Rattle.std.specs.List.{AllByRecursion, flat_map}
 use Rattle.std.specs.Option.{option_and_then}
@@ -7,16 +7,13 @@ use Rattle.std.specs.FinMap.{get, keys, entries, len, len-entries}
 use Rattle.std.proofs.lemmas.List.Sorted.{length_permutation}
 use Rattle.mr_map.specs.Bytes.{Bytes}
 use Rattle.mr_zset.specs.Pairs.{pair_cmp}
-use Rattle.mr_zset.proofs.Orders.{Ascends, Ascends-in_order, IsPermutation-in_order}
-use Rattle.mr_zset.proofs.PairLemmas.{pairs_total}
-use Rattle.mr_entries.specs.Dataset.{Dataset}
-use Rattle.mr_entries.specs.Steps.{deadline_of}
-use Rattle.mr_entries.specs.TimedKeys.{shown as entered, timed, timed_keys}
-use Rattle.mr_entries.specs.declared.timed_key.TimedKey.{TimedKey}
-use Rattle.mr_entries.specs.declared.value.Entry.{Entry}
+use Rattle.mr_zset.proofs.Orders.{IsPermutation-in_order}
+use Rattle.mr_keyspace.specs.Dataset.{Dataset}
+use Rattle.mr_keyspace.specs.TimedKeys.{count_come, timed_keys}
+use Rattle.mr_keyspace.specs.declared.value.Entry.{Entry}
 use Rattle.mr_data.specs.Dataset.{is_expired, live, seen}
 use Rattle.mr_data.specs.Due.{deadline_at, due, if_expired}
-use Rattle.mr_data.proofs.Dues.{due_is, expired, none_later}
+use Rattle.mr_data.proofs.Dues.{due_is}
 use Rattle.mr_data.proofs.Entries.{own_entries}
 use Rattle.mr_data.proofs.SeenKeys.{len_seen}
 
@@ -52,45 +49,14 @@ len_parts now m =
     let due_len : length (due now m) ≡ length (due_among now m (entries m)) = length_permutation _ _ (IsPermutation-in_order pair_cmp (due_among now m (entries m))) in
     omega (arith, len-entries m, seen_len, due_len, all)
 
--- ---- going over an index: how many are counted, and the timed keys that are still to come
-pub record Counting (now : ℤ) (m : Dataset) (count : ℕ) (rest : List TimedKey) : Type 0 where
-  pub counted : count ≡ len (seen now m) + length (filter (expired now) (map entered rest))
-  pub ascends : Ascends pair_cmp (map entered rest)
-  pub small : count < 2 ^ 63
+-- all but those whose deadline has come
+pub live_is : (now : ℤ) (m : Dataset) (all come : ℕ) → all ≡ len m → come ≡ count_come now (timed_keys m) → all - come ≡ len (seen now m)
+live_is now m all come whole count =
+    let gone : count_come now (timed_keys m) ≡ length (due now m) = ap length (sym (due_is now m)) in
+    omega (arith, whole, count, gone, len_parts now m)
 
-pub counting_start : (now : ℤ) (m : Dataset) (count : ℕ) (all : List TimedKey) → count ≡ len m → count < 2 ^ 63 → map entered all ≡ timed_keys m → Counting now m count all
-counting_start now m count all is small whole = record {
-  counted = is ∙ len_parts now m ∙ ap (λ (ps : List Pair). len (seen now m) + length ps) (due_is now m ∙ ap (filter (expired now)) (sym whole));
-  ascends = subst (Ascends pair_cmp) (sym whole) (Ascends-in_order pairs_total (flat_map (λ k. timed k (deadline_of (get m k))) (keys m)));
-  small = small;
-}
-
-module _ {now : ℤ} {m : Dataset} {count : ℕ} {rest : List TimedKey} (c : Counting now m count rest) where
-  pub counting_end : rest ≡ [] → count ≡ len (seen now m)
-  counting_end none =
-      let left : length (filter (expired now) (map entered rest)) ≡ 0 = ap (λ (xs : List TimedKey). length (filter (expired now) (map entered xs))) none in
-      omega (arith, c.counted, left)
-
-  pub counting_later : (x : TimedKey) (xs : List TimedKey) → rest ≡ x ∷ xs → int_le x.deadline now ≡ false → count ≡ len (seen now m)
-  counting_later x xs is out =
-      let up : Ascends pair_cmp (map entered (x ∷ xs)) = subst (λ (ys : List TimedKey). Ascends pair_cmp (map entered ys)) is c.ascends in
-      let left : length (filter (expired now) (map entered rest)) ≡ 0 =
-      ap (λ (ys : List TimedKey). length (filter (expired now) (map entered ys))) is
-      ∙ ap (λ b. length (cond b (entered x ∷ filter (expired now) (map entered xs)) (filter (expired now) (map entered xs)))) out
-      ∙ ap length (none_later (entered x) (map entered xs) now up.0 out) in
-      omega (arith, c.counted, left)
-
-  one_due : (x : TimedKey) (xs : List TimedKey) → rest ≡ x ∷ xs → int_le x.deadline now ≡ true → length (filter (expired now) (map entered rest)) ≡ suc (length (filter (expired now) (map entered xs)))
-  one_due x xs is here =
-      ap (λ (ys : List TimedKey). length (filter (expired now) (map entered ys))) is
-      ∙ ap (λ b. length (cond b (entered x ∷ filter (expired now) (map entered xs)) (filter (expired now) (map entered xs)))) here
-
-  pub counting_some : (x : TimedKey) (xs : List TimedKey) → rest ≡ x ∷ xs → int_le x.deadline now ≡ true → 0 < count
-  counting_some x xs is here = omega (arith, c.counted, one_due x xs is here)
-
-  pub counting_more : (x : TimedKey) (xs : List TimedKey) (fewer : ℕ) → rest ≡ x ∷ xs → int_le x.deadline now ≡ true → count ≡ fewer + 1 → Counting now m fewer xs
-  counting_more x xs fewer is here less = record {
-    counted = omega (arith, c.counted, one_due x xs is here, less);
-    ascends = (subst (λ (ys : List TimedKey). Ascends pair_cmp (map entered ys)) is c.ascends).1;
-    small = omega (arith, c.small, less);
-  }
+-- .. of which there are no more than all
+pub come_within : (now : ℤ) (m : Dataset) (all come : ℕ) → all ≡ len m → come ≡ count_come now (timed_keys m) → come ≤ all
+come_within now m all come whole count =
+    let gone : count_come now (timed_keys m) ≡ length (due now m) = ap length (sym (due_is now m)) in
+    omega (arith, whole, count, gone, len_parts now m)

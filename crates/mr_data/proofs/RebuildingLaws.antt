@@ -16,16 +16,16 @@ use Rattle.mr_effect.specs.Spelling.{IsShort}
 use Rattle.mr_effect.specs.declared.effect.Effect.{Effect}
 use Rattle.mr_effect.specs.declared.effect.Effect.TheVariants as effect
 use Rattle.mr_effect.proofs.Texts.{short_effect}
-use Rattle.mr_entries.specs.Cuts.{cut}
-use Rattle.mr_entries.specs.Dataset.{Dataset, put_at}
-use Rattle.mr_entries.specs.Collections.{with_fields, with_members, with_scores, pushed}
-use Rattle.mr_entries.specs.Steps.{Step, Kind, hashes, lists, sets, sorted_sets, on, entry_of, without_deadline, set_step, expire_step}
-use Rattle.mr_entries.specs.Changes.{change}
-use Rattle.mr_entries.specs.declared.value.Value.{Value}
-use Rattle.mr_entries.specs.declared.value.Value.TheVariants as value
-use Rattle.mr_entries.specs.declared.value.Entry.{Entry}
-use Rattle.mr_entries.proofs.Both.{first, second}
-use Rattle.mr_entries.proofs.Cutting.{IsGroup, cut_whole, no_cut, cut_groups}
+use Rattle.mr_keyspace.specs.Cuts.{cut}
+use Rattle.mr_keyspace.specs.Dataset.{Dataset, put_at}
+use Rattle.mr_keyspace.specs.Collections.{with_fields, with_members, with_scores, pushed}
+use Rattle.mr_keyspace.specs.Steps.{Step, Kind, hashes, lists, sets, sorted_sets, on, entry_of, without_deadline, set_step, expire_step}
+use Rattle.mr_keyspace.specs.Changes.{change}
+use Rattle.mr_keyspace.specs.declared.value.Value.{Value}
+use Rattle.mr_keyspace.specs.declared.value.Value.TheVariants as value
+use Rattle.mr_keyspace.specs.declared.value.Entry.{Entry}
+use Rattle.mr_keyspace.proofs.Both.{first, second}
+use Rattle.mr_keyspace.proofs.Cutting.{IsGroup, cut_whole, no_cut, cut_groups}
 use Rattle.mr_data.specs.Dataset.{IsWord, IsDataset, IsEntry, IsValue, IsLifetime}
 use Rattle.mr_data.specs.Meaning.{apply_all}
 use Rattle.mr_data.specs.Rebuilding.{rebuilt_value, rebuilt_deadline, rebuilt, rebuilding}

@@ -6,16 +6,16 @@ use Rattle.std.specs.Option.{option_map, option_and_then}
 use Rattle.std.specs.FinMap.{get}
 use Rattle.std.proofs.lemmas.List.Elements.{All-nil, All-cons}
 use Rattle.mr_map.specs.Bytes.{Bytes}
-use Rattle.mr_entries.specs.Dataset.{Dataset, put_at}
-use Rattle.mr_entries.specs.Steps.{Step, Kind, held, entry_of, deadline_of, on}
-use Rattle.mr_entries.specs.Changes.{change, at_key}
+use Rattle.mr_keyspace.specs.Dataset.{Dataset, put_at}
+use Rattle.mr_keyspace.specs.Steps.{Step, Kind, held, entry_of, deadline_of, on}
+use Rattle.mr_keyspace.specs.Changes.{change, at_key}
 use Rattle.mr_data.specs.Meaning.{apply, apply_all}
-use Rattle.mr_entries.specs.declared.value.Entry.{Entry}
-use Rattle.mr_entries.specs.declared.value.Value.{Value}
+use Rattle.mr_keyspace.specs.declared.value.Entry.{Entry}
+use Rattle.mr_keyspace.specs.declared.value.Value.{Value}
 use Rattle.mr_effect.specs.Effects.{words_fit, has_spelling}
 use Rattle.mr_effect.specs.Spelling.{IsShort}
 use Rattle.mr_effect.specs.declared.effect.Effect.{Effect}
-use Rattle.mr_entries.proofs.Puts.{get_put, put_same, put_put}
+use Rattle.mr_keyspace.proofs.Puts.{get_put, put_same, put_put}
 
 -- steps at one key, one after another
 abbrev pub run : List Step → Step

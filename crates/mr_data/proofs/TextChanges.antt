@@ -12,14 +12,14 @@ use Rattle.mr_bytes.specs.Number.{is_i64, number_of}
 use Rattle.mr_bytes.specs.Texts.{overwritten}
 use Rattle.mr_bytes.specs.Words.{fits}
 use Rattle.mr_effect.specs.Effects.{pair_fits}
-use Rattle.mr_entries.specs.Dataset.{Dataset}
+use Rattle.mr_keyspace.specs.Dataset.{Dataset}
 use Rattle.mr_data.specs.Dataset.{IsWord, IsDataset, IsValue}
-use Rattle.mr_entries.specs.Steps.{texts, held, same, on, without_deadline, append_step, set_range_step, increase_step}
-use Rattle.mr_entries.specs.Texts.{fitting, sum_of, increased}
-use Rattle.mr_entries.specs.Changes.{with_texts, rename}
-use Rattle.mr_entries.specs.declared.value.Value.{Value}
-use Rattle.mr_entries.specs.declared.value.Value.TheVariants as value
-use Rattle.mr_entries.proofs.Both.{first, second}
+use Rattle.mr_keyspace.specs.Steps.{texts, held, same, on, without_deadline, append_step, set_range_step, increase_step}
+use Rattle.mr_keyspace.specs.Texts.{fitting, sum_of, increased}
+use Rattle.mr_keyspace.specs.Changes.{with_texts, rename}
+use Rattle.mr_keyspace.specs.declared.value.Value.{Value}
+use Rattle.mr_keyspace.specs.declared.value.Value.TheVariants as value
+use Rattle.mr_keyspace.proofs.Both.{first, second}
 use Rattle.mr_data.proofs.Datasets.{Keeps, Stands, Suits, on_keeps, put_keeps}
 
 texts_suit : (absent : Bytes) → IsWord absent → Suits (texts absent) IsWord

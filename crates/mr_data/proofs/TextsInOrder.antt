@@ -7,12 +7,12 @@ use Rattle.std.specs.FinMap.{insert}
 use Rattle.mr_map.specs.Bytes.{Bytes}
 use Rattle.mr_effect.specs.Effects.{has_spelling, words_fit, pair_fits, is_some_of}
 use Rattle.mr_effect.specs.declared.effect.Effect.TheVariants as effect
-use Rattle.mr_entries.specs.Dataset.{Dataset}
-use Rattle.mr_entries.specs.Steps.{without_deadline}
-use Rattle.mr_entries.specs.Changes.{change, with_texts}
+use Rattle.mr_keyspace.specs.Dataset.{Dataset}
+use Rattle.mr_keyspace.specs.Steps.{without_deadline}
+use Rattle.mr_keyspace.specs.Changes.{change, with_texts}
 use Rattle.mr_data.specs.Meaning.{apply, apply_all}
-use Rattle.mr_entries.specs.declared.value.Value.TheVariants as value
-use Rattle.mr_entries.proofs.Both.{first, second}
+use Rattle.mr_keyspace.specs.declared.value.Value.TheVariants as value
+use Rattle.mr_keyspace.proofs.Both.{first, second}
 
 -- one of them
 one_set : (k text : Bytes) (m : Dataset) → IsTrue (words_fit (effect.Set k text)) → apply (effect.Set k text) m ≡ Some (insert m k (without_deadline (value.Text text)))

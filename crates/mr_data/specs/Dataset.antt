@@ -6,10 +6,10 @@ use Rattle.mr_map.specs.Bytes.{Bytes, ByteMap}
 use Rattle.mr_bytes.specs.Words.{fits}
 use Rattle.mr_score.specs.Score.{is_score}
 use Rattle.mr_effect.specs.Effects.{is_deadline}
-use Rattle.mr_entries.specs.Dataset.{Dataset}
-use Rattle.mr_entries.specs.declared.value.Value.{Value}
-use Rattle.mr_entries.specs.declared.value.Value.TheVariants as value
-use Rattle.mr_entries.specs.declared.value.Entry.{Entry}
+use Rattle.mr_keyspace.specs.Dataset.{Dataset}
+use Rattle.mr_keyspace.specs.declared.value.Value.{Value}
+use Rattle.mr_keyspace.specs.declared.value.Value.TheVariants as value
+use Rattle.mr_keyspace.specs.declared.value.Entry.{Entry}
 
 -- within the word limit
 abbrev pub IsWord : Bytes → Type 0

@@ -3,8 +3,8 @@ use Rattle.std.specs.Prelude.{◌≡◌, List, [], ◌∷◌, ◌++◌, ◌&&◌
 use Rattle.std.specs.Option.{option_and_then}
 use Rattle.mr_effect.specs.Effects.{words_fit, has_spelling}
 use Rattle.mr_effect.specs.declared.effect.Effect.{Effect}
-use Rattle.mr_entries.specs.Dataset.{Dataset}
-use Rattle.mr_entries.specs.Changes.{change}
+use Rattle.mr_keyspace.specs.Dataset.{Dataset}
+use Rattle.mr_keyspace.specs.Changes.{change}
 
 -- the dataset after an effect
 unfoldable pub apply : Effect → Dataset → Option Dataset

@@ -2,16 +2,16 @@
 ghost use Rattle.std.specs.Prelude.{◌≡◌, ◌==◌, ◌<◌, ◌^◌, map as each, option_copied};
 ghost use Rattle.std.specs.Option.{option_map, option_and_then};
 ghost use Rattle.std.specs.FinMap as map;
-ghost use Rattle.mr_entries.specs.TimedKeys.{timed_keys, shown};
+ghost use Rattle.mr_keyspace.specs.TimedKeys.{count_come, timed_keys, shown};
 
 mod applying;
 mod together;
 mod whole;
 
-use mr_entries::{Entries, Entry, TimedKey, Value};
+use mr_keyspace::{Entries, Entry, TimedKey, Value};
 use mr_map::Keys;
+use mr_order::Iter;
 use std::alloc::Global;
-use std::collections::btree_set;
 use std::hash::RandomState;
 use std::marker::Model;
 
@@ -25,8 +25,8 @@ impl Model for Dataset {
     ghost use Rattle.std.specs.FinMap as map;
     ghost use Rattle.std.specs.Coded.{coded_ℕ, coded_list};
     ghost use Rattle.mr_map.specs.Bytes.{bytes_cmp};
-    ghost use Rattle.mr_entries.specs.declared.value.Entry.{Entry as Item};
-    ghost use Rattle.mr_entries.specs.contracts.value.Entry as item;
+    ghost use Rattle.mr_keyspace.specs.declared.value.Entry.{Entry as Item};
+    ghost use Rattle.mr_keyspace.specs.contracts.value.Entry as item;
     ghost use Rattle.mr_data.specs.Dataset.{IsDataset};
 
     ghost Value = { map.FinMap bytes_cmp Item };
@@ -82,7 +82,8 @@ impl Dataset {
 
     /// The value of a key, expired or not.
     pub fn value(&self, key: &[u8]) -> Option<&Value>
-        ensures value { option_copied result ≡ option_map (λ e. e.value) (map.get self.now key.now) }
+        ensures value { option_copied result ≡
+            option_map (λ e. e.value) (map.get self.now key.now) }
         ensures kept { IsDataset self.now }
     {
         match self.entry(key) {
@@ -99,10 +100,17 @@ impl Dataset {
     }
 
     /// The keys that have a deadline with it, in order of deadline and then of bytes, expired or not.
-    pub(crate) fn timed_keys(&self) -> btree_set::Iter<'_, TimedKey>
+    pub(crate) fn timed_keys(&self) -> Iter<'_, TimedKey>
         ensures all { each shown result ≡ timed_keys self.now }
         ensures kept { IsDataset self.now }
     {
         self.entries.timed_keys()
+    }
+
+    /// How many keys have a deadline that has come at a moment.
+    pub(crate) fn count_come(&self, now: i64) -> usize
+        ensures count { result ≡ count_come now (timed_keys self.now) }
+    {
+        self.entries.count_come(now)
     }
 }

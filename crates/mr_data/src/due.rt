@@ -1,12 +1,12 @@
 // The expired keys of a dataset.
 ghost use Rattle.std.specs.Prelude.{◌≡◌, ◌<◌, ◌^◌, IfOk, All, MatchOption, map, take, slice_get, int_le, option_copied, option_map, true, false};
 ghost use Rattle.std.specs.FinMap.{len};
-ghost use Rattle.mr_entries.specs.TimedKeys.{shown as entered};
+ghost use Rattle.mr_keyspace.specs.TimedKeys.{shown as entered};
 ghost use Rattle.mr_data.specs.Dataset.{seen};
 ghost use Rattle.mr_data.specs.Due.{due, shown, HasWord};
 
 use crate::dataset::Dataset;
-use mr_entries::TimedKey;
+use mr_keyspace::TimedKey;
 use std::alloc::{AllocError, Global};
 
 /// A key with its deadline. They are in order of deadline, and then of the keys' bytes.
@@ -26,7 +26,8 @@ impl Dataset {
         now: i64,
         most: usize,
     ) -> Result<Vec<DueKey<'_>>, AllocError>
-        ensures keys { IfOk result (λ keys. map shown keys.items ≡ take most (due now self.now)) }
+        ensures keys { IfOk result (λ keys.
+            map shown keys.items ≡ take most (due now self.now)) }
         ensures words { IfOk result (λ keys. All HasWord keys.items) }
     {
         let mut keys = Vec::new(alloc);
@@ -51,19 +52,12 @@ impl Dataset {
         Some(due.key)
     }
 
-    /// How many keys are not expired at a moment. Its time grows with the number of the expired ones alone. It takes no memory.
+    /// How many keys are not expired at a moment. None of the expired ones is gone over. It takes no memory.
     pub fn live_len(&self, now: i64) -> usize
         ensures len { result ≡ len (seen now self.now) }
         ensures small { result < 2 ^ 63 }
     {
-        let mut count = self.len();
-        for timed in self.timed_keys() {
-            if !is_expired(timed, now) {
-                return count;
-            }
-            count -= 1;
-        }
-        count
+        self.len() - self.count_come(now)
     }
 }
 
@@ -76,7 +70,8 @@ fn is_expired(timed: &TimedKey, now: i64) -> bool
 
 /// A key with its deadline, if it is expired at a moment.
 fn if_expired(timed: &TimedKey, now: i64) -> Option<DueKey<'_>>
-    ensures { MatchOption result (int_le timed.now.deadline now ≡ false) (λ d. (shown d ≡ entered timed.now) × (int_le timed.now.deadline now ≡ true)) }
+    ensures { MatchOption result (int_le timed.now.deadline now ≡ false) (λ d.
+        (shown d ≡ entered timed.now) × (int_le timed.now.deadline now ≡ true)) }
 {
     if !is_expired(timed, now) {
         return None;

@@ -17,5 +17,5 @@ pub use laws::{
 };
 pub use mr_bytes::{End, Side};
 pub use mr_effect::{Effect, EffectPairs, EffectWords, Scores, decode, encode, encode_all};
-pub use mr_entries::{ApplyFault, Entry, Value};
+pub use mr_keyspace::{ApplyFault, Entry, Value};
 pub use plan::Plan;

@@ -5,8 +5,8 @@ ghost use Rattle.mr_bytes.specs.declared.ends.End.TheVariants.{Right};
 ghost use Rattle.mr_effect.specs.declared.effect.Effect.TheVariants as made;
 ghost use Rattle.mr_effect.specs.Effects.{has_spelling, words_fit};
 ghost use Rattle.mr_effect.specs.Spelling.{text, texts, IsShort};
-ghost use Rattle.mr_entries.specs.Cuts.{cut, most_items};
-ghost use Rattle.mr_entries.specs.declared.value.Value.TheVariants as stored;
+ghost use Rattle.mr_keyspace.specs.Cuts.{cut, most_items};
+ghost use Rattle.mr_keyspace.specs.declared.value.Value.TheVariants as stored;
 ghost use Rattle.mr_data.specs.Dataset.{IsDataset};
 ghost use Rattle.mr_data.specs.Meaning.{apply_all};
 ghost use Rattle.mr_data.specs.Rebuilding.{rebuilding, rebuilt, rebuilt_value, rebuilt_deadline};
@@ -14,7 +14,7 @@ ghost use Rattle.mr_data.specs.Rebuilding.{rebuilding, rebuilt, rebuilt_value, r
 use crate::dataset::Dataset;
 use mr_bytes::{End, Word};
 use mr_effect::{Effect, EffectPairs, EffectWords, Scores, encode};
-use mr_entries::Value;
+use mr_keyspace::Value;
 use mr_value::{Hash, ListValue, SetValue};
 use mr_zset::ZSet;
 use std::alloc::{AllocError, Global};
@@ -49,7 +49,8 @@ impl Dataset {
 
     /// Appends the texts of the effects that make one key again, and none where it isn't there.
     fn push_key(&self, alloc: Global, key: &[u8], out: &mut Vec<u8>) -> Result<(), AllocError>
-        ensures text { OnOk result (out.new.items ≡ out.old.items ++ texts (rebuilt key.now (get self.now key.now))) }
+        ensures text { OnOk result (out.new.items ≡
+            out.old.items ++ texts (rebuilt key.now (get self.now key.now))) }
         ensures kept { IsDataset self.now }
     {
         let Some(entry) = self.entry(key) else {
@@ -69,7 +70,8 @@ fn push_effect(effect: Effect<'_>, out: &mut Vec<u8>) -> Result<(), AllocError>
 
 /// Appends the text of the effect that gives a key its deadline in milliseconds, if it has one.
 fn push_deadline(key: &[u8], deadline: Option<i64>, out: &mut Vec<u8>) -> Result<(), AllocError>
-    ensures { OnOk result (out.new.items ≡ out.old.items ++ texts (rebuilt_deadline key.now deadline)) }
+    ensures { OnOk result (out.new.items ≡
+        out.old.items ++ texts (rebuilt_deadline key.now deadline)) }
 {
     let Some(deadline) = deadline else {
         return Ok(());
@@ -85,7 +87,8 @@ fn push_value<'d>(
     value: &'d Value,
     out: &mut Vec<u8>,
 ) -> Result<(), AllocError>
-    ensures { OnOk result (out.new.items ≡ out.old.items ++ texts (rebuilt_value key.now value.now)) }
+    ensures { OnOk result (out.new.items ≡
+        out.old.items ++ texts (rebuilt_value key.now value.now)) }
 {
     match value {
         Value::Text(text) => push_text(key, text.as_slice(), out),
@@ -98,7 +101,8 @@ fn push_value<'d>(
 
 /// Appends the text of the effect that sets a key to a text.
 fn push_text<'d>(key: &'d [u8], text: &'d [u8], out: &mut Vec<u8>) -> Result<(), AllocError>
-    ensures { OnOk result (out.new.items ≡ out.old.items ++ texts (rebuilt_value key.now (stored.Text text.now))) }
+    ensures { OnOk result (out.new.items ≡
+        out.old.items ++ texts (rebuilt_value key.now (stored.Text text.now))) }
 {
     let key = Word::borrowed(key);
     let value = Word::borrowed(text);
@@ -112,7 +116,8 @@ fn push_hash<'d>(
     fields: &'d Hash,
     out: &mut Vec<u8>,
 ) -> Result<(), AllocError>
-    ensures { OnOk result (out.new.items ≡ out.old.items ++ texts (rebuilt_value key.now (stored.Hash fields.now))) }
+    ensures { OnOk result (out.new.items ≡
+        out.old.items ++ texts (rebuilt_value key.now (stored.Hash fields.now))) }
 {
     let mut group = EffectPairs::new(alloc);
     for (field, value) in fields.iter() {
@@ -132,7 +137,8 @@ fn push_fields<'d>(
     out: &mut Vec<u8>,
 ) -> Result<(), AllocError>
     requires { length pairs ≤ most_items }
-    ensures { OnOk result (out.new.items ≡ out.old.items ++ texts (map (made.SetFields key.now) (cut pairs.entry))) }
+    ensures { OnOk result (out.new.items ≡
+        out.old.items ++ texts (map (made.SetFields key.now) (cut pairs.entry))) }
 {
     if pairs.is_empty() {
         return Ok(());
@@ -148,7 +154,8 @@ fn push_list<'d>(
     items: &'d ListValue,
     out: &mut Vec<u8>,
 ) -> Result<(), AllocError>
-    ensures { OnOk result (out.new.items ≡ out.old.items ++ texts (rebuilt_value key.now (stored.List items.now))) }
+    ensures { OnOk result (out.new.items ≡
+        out.old.items ++ texts (rebuilt_value key.now (stored.List items.now))) }
 {
     let mut group = EffectWords::new(alloc);
     for item in items.iter() {
@@ -168,7 +175,8 @@ fn push_items<'d>(
     out: &mut Vec<u8>,
 ) -> Result<(), AllocError>
     requires { length items ≤ most_items }
-    ensures { OnOk result (out.new.items ≡ out.old.items ++ texts (map (made.Push key.now Right) (cut items.entry))) }
+    ensures { OnOk result (out.new.items ≡
+        out.old.items ++ texts (map (made.Push key.now Right) (cut items.entry))) }
 {
     if items.is_empty() {
         return Ok(());
@@ -185,7 +193,8 @@ fn push_set<'d>(
     members: &'d SetValue,
     out: &mut Vec<u8>,
 ) -> Result<(), AllocError>
-    ensures { OnOk result (out.new.items ≡ out.old.items ++ texts (rebuilt_value key.now (stored.Set members.now))) }
+    ensures { OnOk result (out.new.items ≡
+        out.old.items ++ texts (rebuilt_value key.now (stored.Set members.now))) }
 {
     let mut group = EffectWords::new(alloc);
     for member in members.members() {
@@ -205,7 +214,8 @@ fn push_members<'d>(
     out: &mut Vec<u8>,
 ) -> Result<(), AllocError>
     requires { length members ≤ most_items }
-    ensures { OnOk result (out.new.items ≡ out.old.items ++ texts (map (made.AddMembers key.now) (cut members.entry))) }
+    ensures { OnOk result (out.new.items ≡
+        out.old.items ++ texts (map (made.AddMembers key.now) (cut members.entry))) }
 {
     if members.is_empty() {
         return Ok(());
@@ -221,7 +231,8 @@ fn push_sorted_set<'d>(
     scores: &'d ZSet,
     out: &mut Vec<u8>,
 ) -> Result<(), AllocError>
-    ensures { OnOk result (out.new.items ≡ out.old.items ++ texts (rebuilt_value key.now (stored.SortedSet scores.now))) }
+    ensures { OnOk result (out.new.items ≡
+        out.old.items ++ texts (rebuilt_value key.now (stored.SortedSet scores.now))) }
 {
     let mut group = Scores::new(alloc);
     for (member, score) in scores.iter() {
@@ -237,7 +248,8 @@ fn push_sorted_set<'d>(
 /// Appends the text of the effect that sets a group of scores, and nothing where it is empty.
 fn push_scores<'d>(key: &'d [u8], scores: Scores<'d>, out: &mut Vec<u8>) -> Result<(), AllocError>
     requires { length scores ≤ most_items }
-    ensures { OnOk result (out.new.items ≡ out.old.items ++ texts (map (made.SetScores key.now) (cut scores.entry))) }
+    ensures { OnOk result (out.new.items ≡
+        out.old.items ++ texts (map (made.SetScores key.now) (cut scores.entry))) }
 {
     if scores.is_empty() {
         return Ok(());

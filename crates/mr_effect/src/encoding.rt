@@ -82,7 +82,8 @@ fn push_words(
     words: &EffectWords<'_>,
     out: &mut Vec<u8>,
 ) -> Result<(), AllocError>
-    ensures ok { OnOk result (out.new.items ≡ out.old.items ++ array (text_of name ∷ key.now ∷ words.now)) }
+    ensures ok { OnOk result (out.new.items ≡
+        out.old.items ++ array (text_of name ∷ key.now ∷ words.now)) }
     ensures kept { Extends out.old.items out.new.items }
 {
     push_head(name, key, words.len(), out)?;
@@ -95,7 +96,8 @@ fn push_words(
 /// Appends a key or field as a word, and its value behind it. What was there stays in front, also after an `Err`.
 #[tactic(auto, using(crate::proofs::Appending::steps))]
 fn push_pair(pair: &(Word<'_>, Word<'_>), out: &mut Vec<u8>) -> Result<(), AllocError>
-    ensures ok { OnOk result (out.new.items ≡ out.old.items ++ flat_map bulk (pair_words pair.now)) }
+    ensures ok { OnOk result (out.new.items ≡
+        out.old.items ++ flat_map bulk (pair_words pair.now)) }
     ensures kept { Extends out.old.items out.new.items }
 {
     push_word(out, pair.0.as_slice())?;
@@ -105,7 +107,8 @@ fn push_pair(pair: &(Word<'_>, Word<'_>), out: &mut Vec<u8>) -> Result<(), Alloc
 /// Appends each key or field as a word, with its value behind it. What was there stays in front, also after an `Err`.
 #[tactic(auto, using(crate::proofs::Appending::steps))]
 fn push_each_pair(pairs: &EffectPairs<'_>, out: &mut Vec<u8>) -> Result<(), AllocError>
-    ensures ok { OnOk result (out.new.items ≡ out.old.items ++ flat_map bulk (flat_map pair_words pairs.now)) }
+    ensures ok { OnOk result (out.new.items ≡
+        out.old.items ++ flat_map bulk (flat_map pair_words pairs.now)) }
     ensures kept { Extends out.old.items out.new.items }
 {
     for pair in pairs.as_slice() {
@@ -117,7 +120,8 @@ fn push_each_pair(pairs: &EffectPairs<'_>, out: &mut Vec<u8>) -> Result<(), Allo
 /// Appends a request: MSET, and keys each with its value behind it. What was there stays in front, also after an `Err`.
 #[tactic(auto, using(crate::proofs::Appending::steps))]
 fn push_keys(pairs: &EffectPairs<'_>, out: &mut Vec<u8>) -> Result<(), AllocError>
-    ensures ok { OnOk result (out.new.items ≡ out.old.items ++ array (text_of EffectName.MSet ∷ flat_map pair_words pairs.now)) }
+    ensures ok { OnOk result (out.new.items ≡
+        out.old.items ++ array (text_of EffectName.MSet ∷ flat_map pair_words pairs.now)) }
     ensures kept { Extends out.old.items out.new.items }
 {
     push_word_count(out, 2 * pairs.len() + 1)?;
@@ -130,7 +134,9 @@ fn push_keys(pairs: &EffectPairs<'_>, out: &mut Vec<u8>) -> Result<(), AllocErro
 /// an `Err`.
 #[tactic(auto, using(crate::proofs::Appending::steps))]
 fn push_fields(key: &Word<'_>, pairs: &EffectPairs<'_>, out: &mut Vec<u8>) -> Result<(), AllocError>
-    ensures ok { OnOk result (out.new.items ≡ out.old.items ++ array (text_of EffectName.HSet ∷ key.now ∷ flat_map pair_words pairs.now)) }
+    ensures ok { OnOk result (out.new.items ≡
+        out.old.items ++
+        array (text_of EffectName.HSet ∷ key.now ∷ flat_map pair_words pairs.now)) }
     ensures kept { Extends out.old.items out.new.items }
 {
     push_head(EffectName::HSet, key, 2 * pairs.len(), out)?;
@@ -141,7 +147,8 @@ fn push_fields(key: &Word<'_>, pairs: &EffectPairs<'_>, out: &mut Vec<u8>) -> Re
 /// Appends a score as a word, and its member behind it. What was there stays in front, also after an `Err`.
 #[tactic(auto, using(crate::proofs::Appending::steps))]
 fn push_score(score: i64, member: &Word<'_>, out: &mut Vec<u8>) -> Result<(), AllocError>
-    ensures ok { OnOk result (out.new.items ≡ out.old.items ++ flat_map bulk (score_words (member.now, score))) }
+    ensures ok { OnOk result (out.new.items ≡
+        out.old.items ++ flat_map bulk (score_words (member.now, score))) }
     ensures kept { Extends out.old.items out.new.items }
 {
     let mut buffer = Buffer::new();
@@ -152,7 +159,8 @@ fn push_score(score: i64, member: &Word<'_>, out: &mut Vec<u8>) -> Result<(), Al
 /// Appends each score as a word, with its member behind it. What was there stays in front, also after an `Err`.
 #[tactic(auto, using(crate::proofs::Appending::steps))]
 fn push_each_score(scores: &Scores<'_>, out: &mut Vec<u8>) -> Result<(), AllocError>
-    ensures ok { OnOk result (out.new.items ≡ out.old.items ++ flat_map bulk (flat_map score_words scores.now)) }
+    ensures ok { OnOk result (out.new.items ≡
+        out.old.items ++ flat_map bulk (flat_map score_words scores.now)) }
     ensures kept { Extends out.old.items out.new.items }
 {
     for pair in scores.as_slice() {
@@ -165,7 +173,9 @@ fn push_each_score(scores: &Scores<'_>, out: &mut Vec<u8>) -> Result<(), AllocEr
 /// an `Err`.
 #[tactic(auto, using(crate::proofs::Appending::steps))]
 fn push_scores(key: &Word<'_>, scores: &Scores<'_>, out: &mut Vec<u8>) -> Result<(), AllocError>
-    ensures ok { OnOk result (out.new.items ≡ out.old.items ++ array (text_of EffectName.ZAdd ∷ key.now ∷ flat_map score_words scores.now)) }
+    ensures ok { OnOk result (out.new.items ≡
+        out.old.items ++
+        array (text_of EffectName.ZAdd ∷ key.now ∷ flat_map score_words scores.now)) }
     ensures kept { Extends out.old.items out.new.items }
 {
     push_head(EffectName::ZAdd, key, 2 * scores.len(), out)?;
@@ -184,7 +194,8 @@ fn push_one(first: &[u8], out: &mut Vec<u8>) -> Result<(), AllocError>
 
 /// Appends a request of two words. What was there stays in front, also after an `Err`.
 fn push_two<'x>(first: &'x [u8], second: &'x [u8], out: &mut Vec<u8>) -> Result<(), AllocError>
-    ensures ok { OnOk result (out.new.items ≡ out.old.items ++ array (first.now ∷ second.now ∷ [])) }
+    ensures ok { OnOk result (out.new.items ≡
+        out.old.items ++ array (first.now ∷ second.now ∷ [])) }
     ensures kept { Extends out.old.items out.new.items }
 {
     push_request(&[first, second], out)
@@ -197,7 +208,8 @@ fn push_three<'x>(
     third: &'x [u8],
     out: &mut Vec<u8>,
 ) -> Result<(), AllocError>
-    ensures ok { OnOk result (out.new.items ≡ out.old.items ++ array (first.now ∷ second.now ∷ third.now ∷ [])) }
+    ensures ok { OnOk result (out.new.items ≡
+        out.old.items ++ array (first.now ∷ second.now ∷ third.now ∷ [])) }
     ensures kept { Extends out.old.items out.new.items }
 {
     push_request(&[first, second, third], out)
@@ -211,7 +223,8 @@ fn push_four<'x>(
     fourth: &'x [u8],
     out: &mut Vec<u8>,
 ) -> Result<(), AllocError>
-    ensures ok { OnOk result (out.new.items ≡ out.old.items ++ array (first.now ∷ second.now ∷ third.now ∷ fourth.now ∷ [])) }
+    ensures ok { OnOk result (out.new.items ≡
+        out.old.items ++ array (first.now ∷ second.now ∷ third.now ∷ fourth.now ∷ [])) }
     ensures kept { Extends out.old.items out.new.items }
 {
     push_request(&[first, second, third, fourth], out)
@@ -226,7 +239,9 @@ fn push_five<'x>(
     fifth: &'x [u8],
     out: &mut Vec<u8>,
 ) -> Result<(), AllocError>
-    ensures ok { OnOk result (out.new.items ≡ out.old.items ++ array (first.now ∷ second.now ∷ third.now ∷ fourth.now ∷ fifth.now ∷ [])) }
+    ensures ok { OnOk result (out.new.items ≡
+        out.old.items ++
+        array (first.now ∷ second.now ∷ third.now ∷ fourth.now ∷ fifth.now ∷ [])) }
     ensures kept { Extends out.old.items out.new.items }
 {
     push_request(&[first, second, third, fourth, fifth], out)
@@ -234,7 +249,10 @@ fn push_five<'x>(
 
 /// Appends a request: LTRIM, a key, a first and a last place. What was there stays in front, also after an `Err`.
 fn push_range(key: &Word<'_>, first: i64, last: i64, out: &mut Vec<u8>) -> Result<(), AllocError>
-    ensures ok { OnOk result (out.new.items ≡ out.old.items ++ array (text_of EffectName.LTrim ∷ key.now ∷ signed_decimal first ∷ signed_decimal last ∷ [])) }
+    ensures ok { OnOk result (out.new.items ≡
+        out.old.items ++
+        array (text_of EffectName.LTrim ∷ key.now ∷ signed_decimal first ∷
+        signed_decimal last ∷ [])) }
     ensures kept { Extends out.old.items out.new.items }
 {
     let mut from = Buffer::new();
@@ -256,7 +274,10 @@ fn push_until(
     deadline: i64,
     out: &mut Vec<u8>,
 ) -> Result<(), AllocError>
-    ensures ok { OnOk result (out.new.items ≡ out.old.items ++ array (text_of EffectName.Set ∷ key.now ∷ value.now ∷ codes "PXAT" ∷ signed_decimal deadline ∷ [])) }
+    ensures ok { OnOk result (out.new.items ≡
+        out.old.items ++
+        array (text_of EffectName.Set ∷ key.now ∷ value.now ∷ codes "PXAT" ∷
+        signed_decimal deadline ∷ [])) }
     ensures kept { Extends out.old.items out.new.items }
 {
     let mut buffer = Buffer::new();
@@ -277,7 +298,8 @@ fn push_number(
     number: i64,
     out: &mut Vec<u8>,
 ) -> Result<(), AllocError>
-    ensures ok { OnOk result (out.new.items ≡ out.old.items ++ array (text_of name ∷ key.now ∷ signed_decimal number ∷ [])) }
+    ensures ok { OnOk result (out.new.items ≡
+        out.old.items ++ array (text_of name ∷ key.now ∷ signed_decimal number ∷ [])) }
     ensures kept { Extends out.old.items out.new.items }
 {
     let mut buffer = Buffer::new();
@@ -297,7 +319,9 @@ fn push_numbered(
     item: &Word<'_>,
     out: &mut Vec<u8>,
 ) -> Result<(), AllocError>
-    ensures ok { OnOk result (out.new.items ≡ out.old.items ++ array (text_of name ∷ key.now ∷ signed_decimal number ∷ item.now ∷ [])) }
+    ensures ok { OnOk result (out.new.items ≡
+        out.old.items ++
+        array (text_of name ∷ key.now ∷ signed_decimal number ∷ item.now ∷ [])) }
     ensures kept { Extends out.old.items out.new.items }
 {
     let mut buffer = Buffer::new();

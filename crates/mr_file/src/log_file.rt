@@ -55,7 +55,8 @@ pub trait LogFile {
     /// Copies what stands from a place on to a place beside the file, and has the copy reach the disk. After a failure there is
     /// no such copy.
     fn set_aside(&mut self, from: u64) -> Result<(), Failed>
-        ensures copied { OnOk result (SetsAside (told self.old) (aside self.old) (aside self.new) from) }
+        ensures copied { OnOk result
+            (SetsAside (told self.old) (aside self.old) (aside self.new) from) }
         ensures failed { OnErr result (aside self.new ≡ aside self.old) }
         ensures same { (told self.new ≡ told self.old) × (synced self.new ≡ synced self.old) }
         ensures later { failures self.old ≤ failures self.new }
@@ -76,7 +77,8 @@ pub trait LogFile {
         ensures replaced { OnOk result (Replaces (told self.old) (told self.new) whole.now) }
         ensures durable { OnOk result (IsSynced (told self.new) (synced self.new)) }
         ensures failed { OnErr result (IsOldOrNew (told self.old) (told self.new) whole.now) }
-        ensures still { OnErr result (told self.new ≡ told self.old → synced self.new ≡ synced self.old) }
+        ensures still { OnErr result (told self.new ≡ told self.old →
+            synced self.new ≡ synced self.old) }
         ensures beside { aside self.new ≡ aside self.old }
         ensures later { failures self.old ≤ failures self.new }
         ensures cause { OnErr result (Rose (failures self.old) (failures self.new)) };

@@ -107,7 +107,8 @@ fn follow<'a>(pattern: &'a [u8], text: &'a [u8]) -> Stop<'a>
 
 /// What follows the part for one byte that the sign begins, if the part takes the byte.
 fn past<'a>(sign: Sign, behind: &'a [u8], byte: u8) -> Option<&'a [u8]>
-    ensures { MatchOption result (set_at sign (signs behind.now) byte ≡ false) (λ rest. Passes sign behind.now byte rest.now) }
+    ensures { MatchOption result (set_at sign (signs behind.now) byte ≡ false) (λ rest.
+        Passes sign behind.now byte rest.now) }
 {
     if sign.is_bare(b'?') {
         return Some(behind);

@@ -5,10 +5,10 @@ use Rattle.std.specs.FinMap.{empty}
 use Rattle.std.proofs.lemmas.List.{take_more, take-append-drop}
 use Rattle.std.proofs.Common.{drop-cons}
 use Rattle.mr_effect.specs.declared.effect.Effect.{Effect}
-use Rattle.mr_entries.specs.Changes.{NeedsNoMemory}
-use Rattle.mr_entries.specs.Dataset.{Dataset}
-use Rattle.mr_entries.specs.declared.fault.ApplyFault.{ApplyFault}
-use Rattle.mr_entries.specs.declared.fault.ApplyFault.TheVariants as undone
+use Rattle.mr_keyspace.specs.Changes.{NeedsNoMemory}
+use Rattle.mr_keyspace.specs.Dataset.{Dataset}
+use Rattle.mr_keyspace.specs.declared.fault.ApplyFault.{ApplyFault}
+use Rattle.mr_keyspace.specs.declared.fault.ApplyFault.TheVariants as undone
 use Rattle.mr_data.specs.Meaning.{apply, apply_all}
 use Rattle.mr_data.proofs.Folding.{apply_all_more}
 use Rattle.mr_groups.specs.Folding.{IsRefused, AppliesGroup, fault_of}

@@ -1,3 +1,4 @@
+pub mod Knowing
 pub mod Framing
 pub mod Apart
 pub mod Openings

@@ -1,15 +1,20 @@
 -- What was read of a group stays read as more bytes come.
-use Rattle.std.proofs.Common.{◌≡◌, ℕ, ◌<◌, ◌≤◌, List, ◌++◌, ◌==◌, true, false, length, take, drop, refl, sym, ap, subst, ◌∙◌, append_assoc, arith, eqb-true, length-append}
-use Rattle.std.proofs.lemmas.List.{take-append-drop, take-append-le, take-take, take_at, length-take-le}
+use Rattle.std.proofs.Common.{◌≡◌, ℕ, ◌<◌, ◌≤◌, List, [], ◌++◌, ◌==◌, true, false, length, take, drop, refl, sym, ap, subst, ◌∙◌, append_assoc, arith, eqb-true, length-append}
+use Rattle.std.proofs.lemmas.List.{append-nil, take-append-drop, take-append-le, take-take, take_at, drop-append-le, length-take-le}
 use Rattle.mr_resp.specs.Command.{BeginsWithCommand}
+use Rattle.mr_resp.specs.Resumed.{AgreesCommand, MayAgree}
+use Rattle.mr_resp.specs.declared.progress.CommandProgress.{CommandProgress}
+use Rattle.mr_resp.proofs.Resuming.{command_more, fresh_command}
 use Rattle.mr_resp.specs.Usual.{commands}
+use Rattle.mr_replay.proofs.Knowing.{known_from}
+use Rattle.mr_replay.proofs.Pieces.{rest_from}
 use Rattle.mr_effect.specs.Spelling.{texts}
 use Rattle.mr_effect.specs.declared.effect.Effect.{Effect}
 use Rattle.mr_groups.specs.Groups.{multi}
 use Rattle.mr_groups.specs.Notes.{HasNoNote}
 use Rattle.mr_groups.specs.Reading.{IsFirstGroup, ReadsGroup}
-use Rattle.mr_groups.specs.Readers.{AreRead, IsFresh, HasRead, LeavesOf, GivesAll, MayRead, ReadsOn, ReadsAny}
-use Rattle.mr_groups.specs.Readers.HasRead.{nothing, begun}
+use Rattle.mr_groups.specs.Readers.{AreRead, IsAtStart, IsFresh, HasRead, LeavesOf, GivesAll, MayRead, ReadsOn, ReadsAny}
+use Rattle.mr_groups.specs.Readers.HasRead.{nothing, partly, begun}
 use Rattle.mr_groups.specs.declared.reader.Reader.{Reader}
 use Rattle.mr_groups.specs.declared.reading.Next.{Next}
 use Rattle.mr_groups.specs.declared.reading.Next.TheVariants.{Whole, More, Bad}
@@ -22,30 +27,53 @@ reads_any r bytes fresh = nothing fresh
 
 pub reads_on : ReadsOn
 reads_on r bytes more (nothing fresh) = nothing fresh
-reads_on r bytes more (begun read) = begun (record {
-  within = omega (arith, read.within, length-append bytes more);
-  is_text = take-append-le r.used bytes more read.within ∙ read.is_text;
-  good = read.good;
-  join = read.join;
-})
+reads_on r bytes more (partly start known) = partly start (command_more r.known bytes more known)
+reads_on r bytes more (begun read known) = begun
+    (record {
+      within = omega (arith, read.within, length-append bytes more);
+      is_text = take-append-le r.used bytes more read.within ∙ read.is_text;
+      good = read.good;
+      join = read.join;
+    })
+    (subst (AgreesCommand r.known) (sym (drop-append-le r.used bytes more read.within)) (command_more r.known (drop r.used bytes) more known))
 
--- what may have been read of the bytes was, where it is among them
-pub read_here : (r : Reader) (bytes : List ℕ) → MayRead r bytes → r.used ≤ length bytes → HasRead r bytes
-read_here r bytes (more, nothing fresh) within = nothing fresh
-read_here r bytes (more, begun read) within = begun (record {
+-- what was read of a frame was, where it is among the bytes
+pub still_read : (r : Reader) (bytes : List ℕ) → MayRead r bytes → (r.used == 0) ≡ false → r.used ≤ length bytes → AreRead bytes r.used r.effects
+still_read r bytes (more, nothing fresh) some within = let wrong : true ≡ false = sym (ap (λ k. k == 0) fresh.0.0) ∙ some in cc
+still_read r bytes (more, partly start known) some within = let wrong : true ≡ false = sym (ap (λ k. k == 0) start.0) ∙ some in cc
+still_read r bytes (more, begun read known) some within = record {
   within = within;
   is_text = sym (take-append-le r.used bytes more within) ∙ read.is_text;
   good = read.good;
   join = read.join;
-})
+}
 
--- what was read of a frame was
-pub still_read : (r : Reader) (bytes : List ℕ) → MayRead r bytes → 0 < r.used → r.used ≤ length bytes → AreRead bytes r.used r.effects
-still_read r bytes may some within = by_cases (read_here r bytes may within)
-  where
-    by_cases : HasRead r bytes → AreRead bytes r.used r.effects
-    by_cases (nothing fresh) = absurd (omega (arith, some, fresh.0))
-    by_cases (begun read) = read
+-- .. and so is what is known of the command text behind it
+pub still_known : (r : Reader) (bytes : List ℕ) → MayRead r bytes → (r.used == 0) ≡ false → r.used ≤ length bytes → MayAgree r.known (drop r.used bytes)
+still_known r bytes (more, nothing fresh) some within = let wrong : true ≡ false = sym (ap (λ k. k == 0) fresh.0.0) ∙ some in cc
+still_known r bytes (more, partly start known) some within = let wrong : true ≡ false = sym (ap (λ k. k == 0) start.0) ∙ some in cc
+still_known r bytes (more, begun read known) some within = (more, subst (AgreesCommand r.known) (drop-append-le r.used bytes more within) known)
+
+no_frame : (r : Reader) (bytes : List ℕ) → (r.used == 0) ≡ true → AreRead bytes r.used r.effects → ⊥
+no_frame r bytes none read =
+    let zero : r.used ≡ 0 = eqb-true r.used 0 none in
+    omega (arith, zero, length-take-le r.used bytes read.within, ap length read.is_text, length-append multi (texts r.effects), multi_length)
+
+-- what has read no whole command text
+pub starts_at : (r : Reader) (bytes : List ℕ) → MayRead r bytes → (r.used == 0) ≡ true → IsAtStart r × MayAgree r.known bytes
+starts_at r bytes (more, nothing fresh) none = (fresh.0, (more, fresh_command r.known (bytes ++ more) fresh.1))
+starts_at r bytes (more, partly start known) none = (start, (more, known))
+starts_at r bytes (more, begun read known) none = absurd (no_frame r (bytes ++ more) none read)
+
+pub may_read : (r : Reader) (bytes : List ℕ) → HasRead r bytes → MayRead r bytes
+may_read r bytes read = ([], subst (HasRead r) (sym (append-nil bytes)) read)
+
+-- what is known of bytes, whatever comes behind them, is known of them
+pub known_here : (progress : CommandProgress) (bytes : List ℕ) → ((more : List ℕ) → AgreesCommand progress (bytes ++ more)) → AgreesCommand progress bytes
+known_here progress bytes known = subst (AgreesCommand progress) (append-nil bytes) (known [])
+
+pub known_behind : (progress : CommandProgress) (bytes : List ℕ) (used : ℕ) → ((more : List ℕ) → AgreesCommand progress (rest_from used bytes ++ more)) → AgreesCommand progress (drop used bytes)
+known_behind progress bytes used known = known_here progress (drop used bytes) (known_from progress bytes used known)
 
 pub given_group : (bytes : List ℕ) (es : List Effect) (n : ℕ) (r : Next) → IsFirstGroup bytes es n → GivesAll es n r → ReadsGroup bytes r
 given_group bytes es n (Whole effects used) first h = subst (λ k. IsFirstGroup bytes effects.items k) (sym h.1) (subst (λ (xs : List Effect). IsFirstGroup bytes xs n) (sym h.0) first)
@@ -57,17 +85,11 @@ given_fresh es n (Whole effects used) s h fresh = fresh
 given_fresh es n More s h fresh = absurd h
 given_fresh es n Bad s h fresh = absurd h
 
--- what has read nothing
-pub is_fresh_at : (r : Reader) (bytes : List ℕ) → HasRead r bytes → (r.used == 0) ≡ true → IsFresh r
-is_fresh_at r bytes (nothing fresh) none = fresh
-is_fresh_at r bytes (begun read) none =
-    let zero : r.used ≡ 0 = eqb-true r.used 0 none in
-    absurd (omega (arith, zero, length-take-le r.used bytes read.within, ap length read.is_text, length-append multi (texts r.effects), multi_length))
-
 -- what it has read of a frame begins with no note
 pub begun_no_note : (r : Reader) (bytes : List ℕ) → HasRead r bytes → (r.used == 0) ≡ false → HasNoNote bytes
-begun_no_note r bytes (nothing fresh) some more note = let wrong : true ≡ false = sym (ap (λ k. k == 0) fresh.0) ∙ some in cc
-begun_no_note r bytes (begun read) some more note =
+begun_no_note r bytes (nothing fresh) some more note = let wrong : true ≡ false = sym (ap (λ k. k == 0) fresh.0.0) ∙ some in cc
+begun_no_note r bytes (partly start known) some more note = let wrong : true ≡ false = sym (ap (λ k. k == 0) start.0) ∙ some in cc
+begun_no_note r bytes (begun read known) some more note =
     framed_no_note (texts r.effects ++ (drop r.used bytes ++ more)) (bytes ++ more)
     (ap (λ (t : List ℕ). t ++ more) (sym (take-append-drop r.used bytes) ∙ ap (λ (t : List ℕ). t ++ drop r.used bytes) read.is_text)
     ∙ (append_assoc (multi ++ texts r.effects) (drop r.used bytes) more ∙ append_assoc multi (texts r.effects) (drop r.used bytes ++ more))) note

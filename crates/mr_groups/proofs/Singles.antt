@@ -5,8 +5,8 @@ use Rattle.std.specs.FinMap.{empty}
 use Rattle.mr_effect.specs.Effects.{has_spelling, words_fit}
 use Rattle.mr_effect.specs.Spelling.{texts, IsShort}
 use Rattle.mr_effect.specs.declared.effect.Effect.{Effect}
-use Rattle.mr_entries.specs.Dataset.{Dataset}
-use Rattle.mr_entries.specs.Changes.{change}
+use Rattle.mr_keyspace.specs.Dataset.{Dataset}
+use Rattle.mr_keyspace.specs.Changes.{change}
 use Rattle.mr_data.specs.Meaning.{apply, apply_all}
 use Rattle.mr_replay.specs.Effects.{IsGoodEffect, Leads, Makes}
 use Rattle.mr_groups.specs.Groups.{IsGoodGroup, singles}

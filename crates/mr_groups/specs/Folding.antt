@@ -4,10 +4,10 @@ use Rattle.std.specs.List.{AllByRecursion}
 use Rattle.std.specs.Option.{option_and_then}
 use Rattle.std.specs.FinMap.{empty}
 use Rattle.mr_effect.specs.declared.effect.Effect.{Effect}
-use Rattle.mr_entries.specs.Dataset.{Dataset}
-use Rattle.mr_entries.specs.Changes.{NeedsNoMemory}
-use Rattle.mr_entries.specs.declared.fault.ApplyFault.{ApplyFault}
-use Rattle.mr_entries.specs.declared.fault.ApplyFault.TheVariants as undone
+use Rattle.mr_keyspace.specs.Dataset.{Dataset}
+use Rattle.mr_keyspace.specs.Changes.{NeedsNoMemory}
+use Rattle.mr_keyspace.specs.declared.fault.ApplyFault.{ApplyFault}
+use Rattle.mr_keyspace.specs.declared.fault.ApplyFault.TheVariants as undone
 use Rattle.mr_data.specs.Meaning.{apply, apply_all, StopsAtOne}
 use Rattle.mr_groups.specs.Groups.{IsGoodGroup, group_text, group_texts}
 use Rattle.mr_groups.specs.Notes.{BeginsWithNote}

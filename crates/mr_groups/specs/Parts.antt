@@ -4,7 +4,9 @@ use Rattle.std.specs.Str.{bytes_eq}
 use Rattle.mr_map.specs.Bytes.{Bytes}
 use Rattle.mr_inline.specs.Language.{Continues, IsDoomed}
 use Rattle.mr_resp.specs.Command.{IsCommandText}
+use Rattle.mr_resp.specs.Resumed.{KnowsNothing}
 use Rattle.mr_resp.specs.Usual.{commands}
+use Rattle.mr_resp.specs.declared.progress.CommandProgress.{CommandProgress}
 use Rattle.mr_effect.specs.Spelling.{text, IsSpelled}
 use Rattle.mr_effect.specs.declared.effect.Effect.{Effect}
 use Rattle.mr_replay.specs.Effects.{IsGoodEffect}
@@ -82,3 +84,11 @@ ReadsWords ws n old (part.End used) new = (used ≡ n) × (ws ≡ exec_words) ×
 ReadsWords ws n old (part.Effect used joins) new = (used ≡ n) × TakesWords ws joins old new
 ReadsWords ws n old part.More new = ⊥
 ReadsWords ws n old part.Bad new = AreOther ws
+
+-- Nothing is known of the command text that comes next, where one was read or none can come.
+abbrev pub IsKnownAfter : CommandProgress → Part → Type 0
+IsKnownAfter progress (part.Begin used) = KnowsNothing progress
+IsKnownAfter progress (part.End used) = KnowsNothing progress
+IsKnownAfter progress (part.Effect used joins) = KnowsNothing progress
+IsKnownAfter progress part.More = Unit {0}
+IsKnownAfter progress part.Bad = KnowsNothing progress

@@ -1,6 +1,7 @@
 -- What was read of a group whose text comes in pieces.
-use Rattle.std.specs.Prelude.{◌≡◌, ℕ, ◌≤◌, List, [], ◌++◌, length, take, All, IsTrue}
+use Rattle.std.specs.Prelude.{◌≡◌, ℕ, ◌≤◌, List, [], ◌++◌, length, take, drop, All, IsTrue}
 use Rattle.std.specs.List.{list_all}
+use Rattle.mr_resp.specs.Resumed.{AgreesCommand, KnowsNothing}
 use Rattle.mr_effect.specs.Spelling.{texts}
 use Rattle.mr_effect.specs.declared.effect.Effect.{Effect}
 use Rattle.mr_replay.specs.Effects.{IsGoodEffect}
@@ -16,14 +17,20 @@ pub record AreRead (bytes : List ℕ) (used : ℕ) (es : List Effect) : Type 0 w
   pub good : All IsGoodEffect es
   pub join : IsTrue (list_all can_join es)
 
+-- no whole command text was read
+abbrev pub IsAtStart : Reader → Type 0
+IsAtStart r = (r.used ≡ 0) × (r.effects ≡ [])
+
 -- nothing was read
 abbrev pub IsFresh : Reader → Type 0
-IsFresh r = (r.used ≡ 0) × (r.effects ≡ [])
+IsFresh r = IsAtStart r × KnowsNothing r.known
 
--- of these bytes nothing was read, or a frame's beginning and effects behind it
+-- Of these bytes nothing was read; or what is known of the command text at their front; or a frame's beginning and effects behind
+-- it, and what is known of the command text there.
 pub data HasRead (r : Reader) (bytes : List ℕ) : Type 0 where
   nothing : IsFresh r → HasRead r bytes
-  begun : AreRead bytes r.used r.effects → HasRead r bytes
+  partly : IsAtStart r → AgreesCommand r.known bytes → HasRead r bytes
+  begun : AreRead bytes r.used r.effects → AgreesCommand r.known (drop r.used bytes) → HasRead r bytes
 
 -- a whole group is given away
 abbrev pub LeavesOf : Next → Reader → Type 0

@@ -1,6 +1,6 @@
 -- Groups that are done as their texts come in pieces.
 use Rattle.std.specs.Prelude.{◌≡◌, ◌⊎◌, ℕ, List, ◌++◌}
-use Rattle.mr_entries.specs.Dataset.{Dataset}
+use Rattle.mr_keyspace.specs.Dataset.{Dataset}
 use Rattle.mr_groups.specs.Reading.{BeginsWithGroup, IsOpen, IsBad}
 use Rattle.mr_groups.specs.Notes.{HasNoNote, IsOpenNote}
 use Rattle.mr_groups.specs.Folding.{IsRefused, IsTorn, MakesByGroups, IsStuckByGroups}

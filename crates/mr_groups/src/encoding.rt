@@ -39,7 +39,8 @@ fn push_one(word: &[u8], out: &mut Vec<u8>) -> Result<(), AllocError>
 /// Appends the texts of effects in their frame.
 #[tactic(auto, using(crate::proofs::Framing::steps), unfolding(crate::specs::Groups::multi, crate::specs::Groups::exec))]
 fn push_framed(effects: &[Effect<'_>], out: &mut Vec<u8>) -> Result<(), AllocError>
-    ensures ok { OnOk result (out.new.items ≡ out.old.items ++ (multi ++ (texts effects.now ++ exec))) }
+    ensures ok { OnOk result (out.new.items ≡
+        out.old.items ++ (multi ++ (texts effects.now ++ exec))) }
     ensures kept { Extends out.old.items out.new.items }
 {
     push_one(b"MULTI", out)?;

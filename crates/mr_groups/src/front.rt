@@ -124,10 +124,10 @@ fn take_turn(alloc: Global, dataset: &mut Dataset, reader: &mut Reader, bytes: &
     ensures done { TakesTurn bytes.now result.used dataset.old dataset.new result.end }
     ensures kept { HasRead reader.new (drop result.used bytes.now) }
 {
-    if !reader.is_fresh() {
+    if !reader.is_at_start() {
         return try_group(alloc, dataset, reader, bytes);
     }
-    let run = replay_front(alloc, dataset, bytes);
+    let run = replay_front(alloc, dataset, &mut reader.known, bytes);
     match run.halt {
         Halt::Open => Turn {
             used: run.used,

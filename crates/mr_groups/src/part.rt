@@ -1,14 +1,15 @@
 // The command text at the front of bytes, as a part of a group's text.
-ghost use Rattle.std.specs.Prelude.{◌≡◌, ◌↔◌, true, ◌++◌, ◌∷◌, [], IfOk, OnErr, OnOk, length, map};
+ghost use Rattle.std.specs.Prelude.{ℕ, List, ◌≡◌, ◌↔◌, true, ◌++◌, ◌∷◌, [], IfOk, OnErr, OnOk, length, map};
 ghost use Rattle.std.specs.Cow.{cow_slice_items};
 ghost use Rattle.mr_resp.specs.Command.{BeginsWithCommand};
+ghost use Rattle.mr_resp.specs.Resumed.{AgreesCommand, MayAgree};
 ghost use Rattle.mr_resp.specs.Usual.{commands};
 ghost use Rattle.mr_groups.specs.Groups.{can_join};
-ghost use Rattle.mr_groups.specs.Parts.{ReadsEffect, ReadsPart, ReadsWords, is_only, multi_words};
+ghost use Rattle.mr_groups.specs.Parts.{IsKnownAfter, ReadsEffect, ReadsPart, ReadsWords, is_only, multi_words};
 
 use crate::owning::owned_effect;
 use mr_data::{Effect, decode};
-use mr_resp::{Scan, next_command};
+use mr_resp::{CommandProgress, Scan, next_command_from};
 use std::alloc::{AllocError, Global};
 use std::borrow::CowSlice;
 use std::marker::Model;
@@ -131,7 +132,8 @@ fn take_effect(
     used: usize,
     effects: &mut Gathered,
 ) -> Result<Part, AllocError>
-    ensures ok { IfOk result (λ part. (part ≡ Part.Effect used (can_join effect.entry)) × (effects.new ≡ effects.old ++ effect.entry ∷ [])) }
+    ensures ok { IfOk result (λ part. (part ≡ Part.Effect used (can_join effect.entry)) ×
+        (effects.new ≡ effects.old ++ effect.entry ∷ [])) }
     ensures err { OnErr result (effects.new ≡ effects.old) }
 {
     let joins = can_join(&effect);
@@ -150,7 +152,8 @@ fn take_words(
     used: usize,
     effects: &mut Gathered,
 ) -> Result<Part, AllocError>
-    ensures ok { IfOk result (λ part. ReadsEffect (map cow_slice_items words.now) used effects.old part effects.new) }
+    ensures ok { IfOk result (λ part.
+        ReadsEffect (map cow_slice_items words.now) used effects.old part effects.new) }
     ensures err { OnErr result (effects.new ≡ effects.old) }
 {
     match decode(alloc, words) {
@@ -167,7 +170,8 @@ fn part_of(
     used: usize,
     effects: &mut Gathered,
 ) -> Result<Part, AllocError>
-    ensures ok { IfOk result (λ part. ReadsWords (map cow_slice_items words.now) used effects.old part effects.new) }
+    ensures ok { IfOk result (λ part.
+        ReadsWords (map cow_slice_items words.now) used effects.old part effects.new) }
     ensures err { OnErr result (effects.new ≡ effects.old) }
 {
     if is_only(words, b"MULTI") {
@@ -180,17 +184,21 @@ fn part_of(
     Ok(part)
 }
 
-/// Reads the command text at the front of the bytes. An effect is put behind the others.
+/// Reads the command text at the front of the bytes, from where an earlier call stopped. An effect is put behind the others.
 pub(crate) fn next_part(
     alloc: Global,
+    progress: &mut CommandProgress,
     bytes: &[u8],
     effects: &mut Gathered,
 ) -> Result<Part, AllocError>
+    requires { MayAgree progress.old bytes.now }
     ensures found { IfOk result (λ part. ReadsPart bytes.now effects.old part effects.new) }
     ensures refused { OnErr result (BeginsWithCommand commands bytes.now) }
     ensures kept { OnErr result (effects.new ≡ effects.old) }
+    ensures known { (more : List ℕ) → AgreesCommand progress.new (bytes.now ++ more) }
+    ensures after { IfOk result (λ part. IsKnownAfter progress.new part) }
 {
-    match next_command(alloc, bytes) {
+    match next_command_from(alloc, progress, bytes) {
         Err(e) => Err(e),
         Ok(Scan::Whole { words, used }) => part_of(alloc, words.as_slice(), used, effects),
         Ok(Scan::Skip { used: _ }) => unreachable!(),

@@ -44,10 +44,12 @@ impl GroupReplay {
     /// a group could be done in part alone, or after an `Err`, the dataset is of no use: some effects may be done.
     pub fn feed(&mut self, piece: &[u8]) -> Result<Rest, AllocError>
         requires { HasRead self.old.reader self.old.unread.items }
-        ensures read { IfOk result (λ rest. (bytes : List ℕ) → IsReadByGroups bytes self.old.dataset self.old.unread.items
+        ensures read { IfOk result (λ rest. (bytes : List ℕ) →
+            IsReadByGroups bytes self.old.dataset self.old.unread.items
             → IsReadUpTo (bytes ++ piece.now) self.new.dataset self.new.unread.items rest) }
         ensures left { IfOk result (λ rest. IsRest self.new.dataset self.new.unread.items rest) }
-        ensures shorter { OnOk result (length self.new.unread.items ≤ length self.old.unread.items + length piece.now) }
+        ensures shorter { OnOk result (length self.new.unread.items ≤
+            length self.old.unread.items + length piece.now) }
         ensures kept { OnOk result (HasRead self.new.reader self.new.unread.items) }
     {
         reserve(&mut self.unread, piece.len())?;

@@ -3,19 +3,19 @@ use Rattle.std.proofs.Common.{◌≡◌, ◌+◌, ℕ, List, ◌++◌, Option, N
 use Rattle.std.proofs.lemmas.Grind.{flat_map-append}
 use Rattle.std.proofs.Math.Seq.{take-append_seam}
 use Rattle.mr_effect.specs.declared.effect.Effect.{Effect}
-use Rattle.mr_entries.specs.Dataset.{Dataset}
+use Rattle.mr_keyspace.specs.Dataset.{Dataset}
 use Rattle.mr_groups.specs.Groups.{IsGoodGroup, group_text}
 use Rattle.mr_groups.specs.Folding.{LeadsByGroups, MakesByGroups}
 use Rattle.mr_groups.proofs.Going.{led_once}
-use Rattle.mr_history.specs.History.{Book, History, IsAt, Grows, texts, fold}
-use Rattle.mr_history.proofs.Fronts.{some_is}
-use Rattle.mr_history.proofs.Histories.{all_front}
-use Rattle.mr_language.specs.Minired.{minired}
-use Rattle.mr_language.proofs.Texts.{made_by_groups_is_one}
-use Rattle.mr_seen.specs.State.{BookEntry, WorldState}
-use Rattle.mr_seen.specs.Books.{IsKept, entry_of, IsKeptAs, IsBook}
-use Rattle.mr_seen.specs.Events.{Holds}
-use Rattle.mr_seen.proofs.Singles.{fold_is}
+use Rattle.law_protocol.specs.History.{Book, History, IsAt, Grows, texts, fold}
+use Rattle.law_protocol.proofs.Fronts.{some_is}
+use Rattle.law_protocol.proofs.Histories.{all_front}
+use Rattle.law_minired.specs.Minired.{minired}
+use Rattle.law_minired.proofs.Texts.{made_by_groups_is_one}
+use Rattle.law_refinement.specs.State.{BookEntry, WorldState}
+use Rattle.law_refinement.specs.Books.{IsKept, entry_of, IsKeptAs, IsBook}
+use Rattle.law_refinement.specs.Events.{Holds}
+use Rattle.law_refinement.proofs.Singles.{fold_is}
 use Rattle.mr_headline.specs.Showing.{Gives, HistoriesGoOn}
 use Rattle.mr_headline.specs.Headline.{HistoriesGiveOne}
 

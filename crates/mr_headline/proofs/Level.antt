@@ -1,12 +1,13 @@
 -- A replica whose link is caught up stands where its master does.
-use Rattle.std.proofs.Common.{None, Some, refl, ap, ◌∙◌, arith}
+use Rattle.std.proofs.Common.{None, Some, ap, ◌∙◌, arith}
 use Rattle.std.specs.Option.{option_map}
 use Rattle.std.proofs.lemmas.List.{length-drop}
-use Rattle.mr_history.proofs.Theorem.{caught_up}
-use Rattle.mr_language.proofs.MiniredLaws.{minired_laws}
-use Rattle.mr_seen.specs.Seeing.{seen, seen_node, seen_link, seen_phase, seen_follow}
-use Rattle.mr_seen.specs.Worlds.{no_world}
-use Rattle.mr_seen.proofs.Beginning.{worlds_begin}
+use Rattle.law_protocol.proofs.Theorem.{caught_up}
+use Rattle.law_minired.proofs.MiniredLaws.{minired_laws}
+use Rattle.law_refinement.specs.Seeing.{seen, seen_node, seen_link, seen_phase, seen_follow}
+use Rattle.law_refinement.specs.Worlds.{no_world}
+use Rattle.law_refinement.proofs.Beginning.{worlds_begin}
+use Rattle.law_refinement.proofs.Unaccepted.{served_to}
 use Rattle.mr_headline.specs.Headline.{CaughtUpIsLevel}
 use Rattle.mr_headline.proofs.Moments.{moment}
 
@@ -22,7 +23,7 @@ caught_up_is_level vs k v p l a s c =
       phase = seen_phase c.follow.phase;
       follow = ap (seen_follow a.dialled) c.follows ∙ ap (λ z. seen_follow z (Some (c.name, c.follow))) c.dialled;
       m = c.link.to;
-      to = refl;
+      to = served_to v m.holds.world l c.link c.found c.serving;
       master_found = ap (option_map seen_node) c.master_found;
       master_up = c.master_up;
       serving = c.serving;

@@ -2,19 +2,19 @@
 use Rattle.std.proofs.Common.{zero, suc, ◌≡◌, ◌≤◌, ◌⊎◌, inl, inr, ℕ, List, [], ◌∷◌, None, Some, refl, sym, ap, subst, arith}
 use Rattle.std.specs.Prelude.{slice_get}
 use Rattle.std.specs.Option.{option_map}
-use Rattle.mr_entries.specs.Dataset.{Dataset}
-use Rattle.mr_history.specs.History.{Book, Grows, IsAt}
-use Rattle.mr_history.proofs.Fronts.{some_is, at_grows, at_unique, keeps_grows}
-use Rattle.mr_history.proofs.Keeping.{none_some}
-use Rattle.mr_history.proofs.Moves.{still}
-use Rattle.mr_history.proofs.Theorem.{inv_true, move_keeps, grows_on}
-use Rattle.mr_language.specs.Minired.{minired}
-use Rattle.mr_language.proofs.MiniredLaws.{minired_laws}
-use Rattle.mr_seen.specs.State.{WorldState}
-use Rattle.mr_seen.specs.Seeing.{seen, seen_node}
-use Rattle.mr_seen.specs.Worlds.{IsWorld, no_world}
-use Rattle.mr_seen.specs.Events.{Holds}
-use Rattle.mr_seen.proofs.Beginning.{kept_histories, worlds_begin}
+use Rattle.mr_keyspace.specs.Dataset.{Dataset}
+use Rattle.law_protocol.specs.History.{Book, Grows, IsAt}
+use Rattle.law_protocol.proofs.Fronts.{some_is, at_grows, at_unique, keeps_grows}
+use Rattle.law_protocol.proofs.Keeping.{none_some}
+use Rattle.law_protocol.proofs.Moves.{still}
+use Rattle.law_protocol.proofs.Theorem.{inv_true, move_keeps, grows_on}
+use Rattle.law_minired.specs.Minired.{minired}
+use Rattle.law_minired.proofs.MiniredLaws.{minired_laws}
+use Rattle.law_refinement.specs.State.{WorldState}
+use Rattle.law_refinement.specs.Seeing.{seen, seen_node}
+use Rattle.law_refinement.specs.Worlds.{IsWorld, no_world}
+use Rattle.law_refinement.specs.Events.{Holds}
+use Rattle.law_refinement.proofs.Beginning.{kept_histories, worlds_begin}
 use Rattle.mr_headline.specs.Showing.{Shows}
 use Rattle.mr_headline.specs.Runs.{Happens, an_event, nothing_seen, Run}
 use Rattle.mr_headline.specs.Headline.{NoSilentDifference, TrueToHistory, HistoriesStay, MomentsAreKnown, RunsGoOn}

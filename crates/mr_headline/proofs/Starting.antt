@@ -2,13 +2,13 @@
 use Rattle.std.proofs.Common.{zero, suc, ◌≡◌, ℕ, List, [], ◌∷◌, Bool, Option, None, Some, not, refl, sym, subst}
 use Rattle.std.specs.Prelude.{slice_get}
 use Rattle.std.specs.FinMap.{empty}
-use Rattle.mr_history.specs.Event as events
-use Rattle.mr_rows.specs.State.{started}
-use Rattle.mr_rows.specs.Sound.{IsSound}
-use Rattle.mr_seen.specs.State.{Slot}
-use Rattle.mr_seen.specs.Worlds.{IsWorld, no_world}
-use Rattle.mr_seen.specs.Carrying.{begun_slot, started_with}
-use Rattle.mr_seen.proofs.Beginning.{starts}
+use Rattle.law_protocol.specs.Event as events
+use Rattle.mr_node_spec.specs.State.{started}
+use Rattle.mr_node_spec.specs.Sound.{IsSound}
+use Rattle.law_refinement.specs.State.{Slot}
+use Rattle.law_refinement.specs.Worlds.{IsWorld, no_world}
+use Rattle.law_refinement.specs.Carrying.{begun_slot, started_with}
+use Rattle.law_refinement.proofs.Beginning.{starts}
 use Rattle.mr_headline.specs.Runs.{an_event}
 use Rattle.mr_headline.specs.Headline.{StartsAreRuns}
 
@@ -24,6 +24,7 @@ one_node as_replica port backlog id file sound = record {
   asks = λ l k e. absurd (none_there l k e);
   tells = λ l k e. absurd (none_there l k e);
   servers = λ l k e. absurd (none_there l k e);
+  untouched = λ l k e. absurd (none_there l k e);
   names = λ i j k m e. absurd (none_there i k e);
   nodes = λ n s e u. subst (λ (z : Slot). IsSound z.node) (only_one (begun_slot as_replica port backlog id empty file) n s e) sound;
   followers = λ n s name f e u q.

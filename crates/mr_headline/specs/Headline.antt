@@ -1,15 +1,15 @@
 -- What is promised of every run of Worlds.
 use Rattle.std.specs.Prelude.{◌≡◌, ◌≤◌, ℕ, List, [], ◌∷◌, ◌++◌, Bool}
 use Rattle.std.specs.FinMap.{empty}
-use Rattle.mr_entries.specs.Dataset.{Dataset}
-use Rattle.mr_history.specs.History.{Book}
-use Rattle.mr_language.specs.Minired.{minired}
-use Rattle.mr_rows.specs.State.{started}
-use Rattle.mr_rows.specs.Sound.{IsSound}
-use Rattle.mr_seen.specs.State.{Slot, WorldState}
-use Rattle.mr_seen.specs.Worlds.{no_world}
-use Rattle.mr_seen.specs.Carrying.{begun_slot, started_with}
-use Rattle.mr_seen.specs.Events.{Holds}
+use Rattle.mr_keyspace.specs.Dataset.{Dataset}
+use Rattle.law_protocol.specs.History.{Book}
+use Rattle.law_minired.specs.Minired.{minired}
+use Rattle.mr_node_spec.specs.State.{started}
+use Rattle.mr_node_spec.specs.Sound.{IsSound}
+use Rattle.law_refinement.specs.State.{Slot, WorldState}
+use Rattle.law_refinement.specs.Worlds.{no_world}
+use Rattle.law_refinement.specs.Carrying.{begun_slot, started_with}
+use Rattle.law_refinement.specs.Events.{Holds}
 use Rattle.mr_headline.specs.Showing.{Shows, Gives, HistoriesGoOn}
 use Rattle.mr_headline.specs.Runs.{Run, IsMoment, last_of, CaughtUp}
 

@@ -1,18 +1,18 @@
 -- Runs of Worlds, and their moments.
 use Rattle.std.specs.Prelude.{◌≡◌, ◌≤◌, ℕ, List, [], ◌∷◌, Some, true, length, slice_get}
 use Rattle.mr_links.specs.declared.link_id.LinkId.{LinkId}
-use Rattle.mr_follow.specs.State.{FollowState}
-use Rattle.mr_history.specs.History.{Book}
-use Rattle.mr_history.specs.Event as events
-use Rattle.mr_history.specs.Changing.{Still}
-use Rattle.mr_history.specs.FollowerRows.{Usable}
-use Rattle.mr_language.specs.Minired.{minired}
-use Rattle.mr_seen.specs.Way.{unread}
-use Rattle.mr_seen.specs.State.{Link, Slot, WorldState}
-use Rattle.mr_seen.specs.Seeing.{seen, seen_phase}
-use Rattle.mr_seen.specs.Books.{IsBook}
-use Rattle.mr_seen.specs.Worlds.{IsWorld, no_world}
-use Rattle.mr_seen.specs.Events.{IsEvent, Holds}
+use Rattle.mr_follower.specs.State.{FollowState}
+use Rattle.law_protocol.specs.History.{Book}
+use Rattle.law_protocol.specs.Event as events
+use Rattle.law_protocol.specs.Changing.{Still}
+use Rattle.law_protocol.specs.FollowerRows.{Usable}
+use Rattle.law_minired.specs.Minired.{minired}
+use Rattle.law_refinement.specs.Way.{unread}
+use Rattle.law_refinement.specs.State.{Link, Slot, WorldState}
+use Rattle.law_refinement.specs.Seeing.{seen, seen_phase}
+use Rattle.law_refinement.specs.Books.{IsBook}
+use Rattle.law_refinement.specs.Worlds.{IsWorld, no_world}
+use Rattle.law_refinement.specs.Events.{IsEvent, Holds}
 
 -- An event leads from one World to the next: what nodes, links and the history of each id are then is what its row says, whatever
 -- histories those of the ids are. Or nothing changes of these.

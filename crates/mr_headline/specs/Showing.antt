@@ -1,9 +1,9 @@
 -- What a node of a World shows, and what the history of an id gives.
 use Rattle.std.specs.Prelude.{◌≡◌, ◌≤◌, ℕ, List, ◌++◌, Some, true, length, take, slice_get}
-use Rattle.mr_entries.specs.Dataset.{Dataset}
+use Rattle.mr_keyspace.specs.Dataset.{Dataset}
 use Rattle.mr_groups.specs.Folding.{LeadsByGroups, MakesByGroups}
-use Rattle.mr_seen.specs.State.{Slot, BookEntry, WorldState}
-use Rattle.mr_seen.specs.Books.{entry_of}
+use Rattle.law_refinement.specs.State.{Slot, BookEntry, WorldState}
+use Rattle.law_refinement.specs.Books.{entry_of}
 
 -- Node n isn't stopped, has this id and this offset, and holds m.
 pub record Shows (w : WorldState) (n : ℕ) (id : List ℕ) (offset : ℕ) (m : Dataset) : Type 0 where

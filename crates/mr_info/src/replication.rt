@@ -23,7 +23,9 @@ pub fn info(
     second: Option<(ReplId, u64)>,
     stream: &Backlog,
 ) -> Result<Vec<u8>, AllocError>
-    ensures { IfOk result (λ text. text.items ≡ info_text replica followers (record { id = id; second = second; stream = stream.now })) }
+    ensures { IfOk result (λ text.
+        text.items ≡
+        info_text replica followers (record { id = id; second = second; stream = stream.now })) }
 {
     let mut text = Vec::from_slice(alloc, b"# Replication\r\n")?;
     push_field(&mut text, b"role", role_text(replica))?;
@@ -48,7 +50,8 @@ fn role_text(replica: bool) -> &'static [u8]
 
 /// Puts the line of the id before behind the text.
 fn push_second_id(text: &mut Vec<u8>, second: &Option<(ReplId, u64)>) -> Result<(), AllocError>
-    ensures { OnOk result (text.new.items ≡ text.old.items ++ line (codes "master_replid2") (second_id_text second.now)) }
+    ensures { OnOk result (text.new.items ≡
+        text.old.items ++ line (codes "master_replid2") (second_id_text second.now)) }
 {
     match second {
         Some((id, _)) => push_field(text, b"master_replid2", &id.digits()),
@@ -58,7 +61,8 @@ fn push_second_id(text: &mut Vec<u8>, second: &Option<(ReplId, u64)>) -> Result<
 
 /// Puts the line of the offset at which the id before ends behind the text.
 fn push_second_offset(text: &mut Vec<u8>, second: &Option<(ReplId, u64)>) -> Result<(), AllocError>
-    ensures { OnOk result (text.new.items ≡ text.old.items ++ line (codes "second_repl_offset") (second_offset_text second.now)) }
+    ensures { OnOk result (text.new.items ≡
+        text.old.items ++ line (codes "second_repl_offset") (second_offset_text second.now)) }
 {
     match second {
         Some((_, offset)) => push_number(text, b"second_repl_offset", *offset),

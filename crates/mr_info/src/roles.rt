@@ -50,7 +50,8 @@ pub fn master_role(
 
 /// What ROLE tells of replicas, in their order.
 fn replies_of(alloc: Global, replicas: &[Replica]) -> Result<Vec<Reply>, AllocError>
-    ensures { IfOk result (λ replies. views replies.items ≡ trees_of (map replica_tree replicas.now)) }
+    ensures { IfOk result (λ replies.
+        views replies.items ≡ trees_of (map replica_tree replicas.now)) }
 {
     let mut replies = Vec::with_capacity(alloc, replicas.len())?;
     for replica in replicas {
@@ -79,7 +80,8 @@ pub fn replica_role(
     port: u16,
     link: MasterLink,
 ) -> Result<Reply, AllocError>
-    ensures { IfOk result (λ reply. view reply ≡ replica_reply stream.now.offset host.now port link) }
+    ensures { IfOk result (λ reply.
+        view reply ≡ replica_reply stream.now.offset host.now port link) }
 {
     let mut parts = Vec::with_capacity(alloc, 5)?;
     parts.push(Reply::bulk(alloc, b"slave")?)?;
@@ -110,7 +112,8 @@ fn offset_of(stream: &Backlog) -> Reply
 
 /// What was given, or else the other.
 fn bulk_or(alloc: Global, given: Option<&[u8]>, other: &[u8]) -> Result<Reply, AllocError>
-    ensures { IfOk result (λ reply. view reply ≡ bytes (unwrap_or (option_map (λ word. word.now) given.entry) other.now)) }
+    ensures { IfOk result (λ reply.
+        view reply ≡ bytes (unwrap_or (option_map (λ word. word.now) given.entry) other.now)) }
 {
     match given {
         Some(word) => Reply::bulk(alloc, word),

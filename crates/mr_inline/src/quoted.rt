@@ -92,7 +92,8 @@ pub(crate) fn push_double(
     word: &mut Vec<u8>,
 ) -> Result<usize, AllocError>
     requires { start ≤ length line.now }
-    ensures { IfOk result (λ end. Unquotes Double line.now start end word.old.items word.new.items) }
+    ensures { IfOk result (λ end.
+        Unquotes Double line.now start end word.old.items word.new.items) }
 {
     let mut at = start;
     while at < line.len() {
@@ -113,7 +114,8 @@ pub(crate) fn push_single(
     word: &mut Vec<u8>,
 ) -> Result<usize, AllocError>
     requires { start ≤ length line.now }
-    ensures { IfOk result (λ end. Unquotes Single line.now start end word.old.items word.new.items) }
+    ensures { IfOk result (λ end.
+        Unquotes Single line.now start end word.old.items word.new.items) }
 {
     let mut at = start;
     while at < line.len() {

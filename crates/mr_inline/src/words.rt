@@ -38,7 +38,8 @@ fn word_at<'a>(alloc: Global, line: &'a [u8], start: usize) -> Result<Cut<'a>, A
     requires inside { start < length line.now }
     requires begins { kind_of (slice_index line.now start) ≢ Separator }
     ensures word { IfOk result (λ cut. IsCut line.now start cut.end (cow_slice_items cut.word)) }
-    ensures borrowed { IfOk result (λ cut. IsBare (drop start line.now) → IsBorrowedSlice cut.word) }
+    ensures borrowed { IfOk result (λ cut. IsBare (drop start line.now) →
+        IsBorrowedSlice cut.word) }
 {
     let end = plain_end(line, start);
     let plain = &line[start..end];
@@ -77,7 +78,8 @@ pub(crate) fn words_of<'a>(
     alloc: Global,
     line: &'a [u8],
 ) -> Result<Vec<CowSlice<'a, u8>>, AllocError>
-    ensures words { IfOk result (λ words. AllZip IsReadAt (starts_from Between line.now) words.items) }
+    ensures words { IfOk result (λ words.
+        AllZip IsReadAt (starts_from Between line.now) words.items) }
     ensures refused { OnErr result (0 < length (starts_from Between line.now)) }
 {
     let mut words = Vec::new(alloc);

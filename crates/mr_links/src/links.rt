@@ -60,7 +60,8 @@ impl<T, A: Allocator> Links<T, A> {
         requires { self.old.opened < links_limit }
         ensures generation { IfOk result (λ id. id.generation ≡ self.old.opened) }
         ensures fresh { IfOk result (λ id. map.get self.old.open_links id ≡ None) }
-        ensures inserted { IfOk result (λ id. self.new.open_links ≡ map.insert self.old.open_links id link) }
+        ensures inserted { IfOk result (λ id.
+            self.new.open_links ≡ map.insert self.old.open_links id link) }
         ensures opened { OnOk result (self.new.opened ≡ self.old.opened + 1) }
         ensures err { OnErr result (self.new ≡ self.old) }
         ensures value_returned { IfErr result (λ failed. failed.value ≡ link) }
@@ -79,7 +80,8 @@ impl<T, A: Allocator> Links<T, A> {
 
     /// The link under this id, if it is open, to be changed in place.
     pub fn get_mut(&mut self, id: LinkId) -> Option<&mut T>
-        ensures* writes_back { sem 𝓛 (lends_link_if_open T.row A.row A.Allocator self.entry id result) }
+        ensures* writes_back { sem 𝓛
+            (lends_link_if_open T.row A.row A.Allocator self.entry id result) }
         ensures value { option_copied_mut result ≡ map.get self.old.open_links id }
     {
         if self.contains(id) {

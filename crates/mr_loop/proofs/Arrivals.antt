@@ -3,13 +3,13 @@ use Rattle.std.proofs.Common.{◌≡◌, ◌<◌, ◌≤◌, ◌≢◌, ◌+◌,
 use Rattle.std.specs.FinMap.{remove}
 use Rattle.std.proofs.lemmas.List.{length-take-le}
 use Rattle.mr_links.specs.declared.link_id.LinkId.{LinkId}
-use Rattle.mr_ends.specs.State.{EndState, full, serves, unread_in}
-use Rattle.mr_ends.specs.State.EndState.{client, waiting, replica, shut, upstream}
+use Rattle.mr_node_links.specs.State.{EndState, full, serves, unread_in}
+use Rattle.mr_node_links.specs.State.EndState.{client, waiting, replica, shut, upstream}
 use Rattle.mr_file.specs.LogFile.{Rose}
 use Rattle.mr_file.specs.declared.sync_mode.SyncMode.{SyncMode}
-use Rattle.mr_outs.specs.Outs.{OutsState, outs_of}
-use Rattle.mr_rows.specs.State.{NodeState, end_of, room_at}
-use Rattle.mr_rows.specs.LinkRows.{Dials}
+use Rattle.mr_node_output.specs.Outs.{OutsState, outs_of}
+use Rattle.mr_node_spec.specs.State.{NodeState, end_of, room_at}
+use Rattle.mr_node_spec.specs.LinkRows.{Dials}
 use Rattle.mr_node.specs.Calls.{FeedRow, OpensNoMore}
 use Rattle.mr_node.specs.declared.fault.NodeFault.{NodeFault}
 use Rattle.mr_node.specs.declared.fault.NodeFault.TheVariants as refusal
@@ -17,7 +17,9 @@ use Rattle.mr_wire.specs.Wire.{LinkState, AcceptsNone, Opens, WireState}
 use Rattle.mr_wire.proofs.Places.{one_more, put_and_removed}
 use Rattle.mr_loop.specs.declared.fault.LoopFault.{LoopFault}
 use Rattle.mr_loop.specs.declared.fault.LoopFault.TheVariants as fault
-use Rattle.mr_loop.specs.Stage.{LoopState, Stage, lacking}
+use Rattle.mr_loop.specs.declared.lacking.Asked.{Asked}
+use Rattle.mr_loop.specs.declared.lacking.Lacked.{Lacked}
+use Rattle.mr_loop.specs.Stage.{LoopState, Stage, losing}
 use Rattle.mr_loop.specs.Carrying.{CarriesAs, SameFile}
 use Rattle.mr_loop.specs.Causes.{Calls, Dropped, HasRoom, TurnsOff, at_dial, stays}
 use Rattle.mr_loop.specs.Rows.{TurnsAway, acts, memory_lacked, opens_no_more, spills, tears, wire_failed}
@@ -97,12 +99,12 @@ room_for a l count most room within = record { room = room.room; is = room.is; f
 
 -- ---- no connection comes of a link
 
-own_lacked : (o p : LoopState) (k : ℕ) → p ≡ record o { lacked = k } → p ≡ record o { lacked = p.lacked }
+own_lacked : (o p : LoopState) (k : Lacked) → p ≡ record o { lacked = k } → p ≡ record o { lacked = p.lacked }
 own_lacked o p k e = e ∙ ap (λ n. record o { lacked = n }) (sym (ap (λ (z : LoopState). z.lacked) e))
 
 -- since memory ran out
-pub lacks_row : {s t : Stage} → AcceptsNone s.wire t.wire → s.failed ≤ t.failed → TurnsOff s.node t.node → t.own ≡ lacking s.own → SameFile s t → TurnsAway s t
-lacks_row {s} {t} wire later node own file = record {
+pub lacks_row : {what : Asked} {s t : Stage} → AcceptsNone s.wire t.wire → s.failed ≤ t.failed → TurnsOff s.node t.node → t.own ≡ losing what s.own → SameFile s t → TurnsAway what s t
+lacks_row {what} {s} {t} wire later node own file = record {
   wire = wire;
   later = later;
   node = node;
@@ -112,8 +114,8 @@ lacks_row {s} {t} wire later node own file = record {
 }
 
 -- .. or the wire failed
-pub failed_row : {s t : Stage} → AcceptsNone s.wire t.wire → Rose s.failed t.failed → s.failed ≤ t.failed → t.node ≡ s.node → t.own ≡ s.own → SameFile s t → TurnsAway s t
-failed_row {s} {t} wire rose later node own file = record {
+pub failed_row : {what : Asked} {s t : Stage} → AcceptsNone s.wire t.wire → Rose s.failed t.failed → s.failed ≤ t.failed → t.node ≡ s.node → t.own ≡ s.own → SameFile s t → TurnsAway what s t
+failed_row {what} {s} {t} wire rose later node own file = record {
   wire = wire;
   later = later;
   node = stays node;
@@ -123,8 +125,8 @@ failed_row {s} {t} wire rose later node own file = record {
 }
 
 -- .. or the node opens no more
-pub full_row : {s t : Stage} (stopped : NodeState) → AcceptsNone s.wire t.wire → s.failed ≤ t.failed → OpensNoMore s.node stopped → t.node ≡ s.node → t.own ≡ s.own → SameFile s t → TurnsAway s t
-full_row {s} {t} stopped wire later opens node own file = record {
+pub full_row : {what : Asked} {s t : Stage} (stopped : NodeState) → AcceptsNone s.wire t.wire → s.failed ≤ t.failed → OpensNoMore s.node stopped → t.node ≡ s.node → t.own ≡ s.own → SameFile s t → TurnsAway what s t
+full_row {what} {s} {t} stopped wire later opens node own file = record {
   wire = wire;
   later = later;
   node = stays node;

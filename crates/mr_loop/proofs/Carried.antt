@@ -1,10 +1,10 @@
 -- What stays as outs are carried out.
 use Rattle.std.proofs.Common.{◌≡◌, ◌++◌, ℕ, List, [], ◌∷◌, Bool, true, false, ◌||◌, Option, None, Some, refl, sym, ap, subst, ◌∙◌}
 use Rattle.mr_links.specs.declared.link_id.LinkId.{LinkId}
-use Rattle.mr_outs.specs.Address.{AddressState}
-use Rattle.mr_outs.specs.Outs.{OutState, OutsState, grow, append, replace, send, close, use_id, follow, halt, outs_of, grown_outs, appended_outs, replaced_outs, fed_outs, sent_outs, closing_outs, closed_outs, used_outs, followed_outs, halted_outs}
-use Rattle.mr_rows.specs.State.{NodeState}
-use Rattle.mr_rows.specs.LinkRows.{closed_at}
+use Rattle.mr_node_output.specs.Address.{AddressState}
+use Rattle.mr_node_output.specs.Outs.{OutState, OutsState, grow, append, replace, send, close, use_id, follow, halt, outs_of, grown_outs, appended_outs, replaced_outs, fed_outs, sent_outs, closing_outs, closed_outs, used_outs, followed_outs, halted_outs}
+use Rattle.mr_node_spec.specs.State.{NodeState}
+use Rattle.mr_node_spec.specs.LinkRows.{closed_at}
 use Rattle.mr_loop.specs.Stage.{Stage, LoopState}
 use Rattle.mr_loop.specs.Carrying.{Carries, Carried, Spilled, Torn}
 

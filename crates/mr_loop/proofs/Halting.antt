@@ -1,7 +1,7 @@
 -- That the loop knows of each SHUTDOWN.
 use Rattle.std.proofs.Common.{◌≡◌, List, [], ◌∷◌, Bool, true, false, ◌||◌, Option, None, Some, refl, ap, ◌∙◌}
 use Rattle.mr_file.specs.declared.sync_mode.SyncMode.{SyncMode}
-use Rattle.mr_outs.specs.Outs.{OutsState, outs_of}
+use Rattle.mr_node_output.specs.Outs.{OutsState, outs_of}
 use Rattle.mr_loop.specs.declared.fault.LoopFault.{LoopFault}
 use Rattle.mr_loop.specs.Stage.{Stage, LoopState}
 use Rattle.mr_loop.specs.Causes.{Act, Calls, at_dial, at_step, at_tick}

@@ -3,20 +3,20 @@ use Rattle.std.proofs.Common.{◌≡◌, ◌≢◌, ◌==◌, ◌⊎◌, inl, in
 use Rattle.std.proofs.lemmas.Bool.{ne_eqb}
 use Rattle.mr_links.specs.declared.link_id.LinkId.{LinkId}
 use Rattle.mr_data.specs.declared.given.Given.{Given}
-use Rattle.mr_course.specs.State.{CourseState, name_of}
-use Rattle.mr_course.specs.declared.upstream.UpstreamStep.{UpstreamStep}
-use Rattle.mr_course.specs.declared.upstream.UpstreamStep.TheVariants as outcome
-use Rattle.mr_ends.specs.State.{EndState, streams}
-use Rattle.mr_ends.specs.State.EndState.{client, waiting, replica as replica_end, upstream}
-use Rattle.mr_follow.specs.State.{FollowState}
-use Rattle.mr_follow.specs.Handshake.{IsGreeting, capabilities_line, line_after, next_of, port_line, psync_line}
-use Rattle.mr_follow.specs.Rows.{IsBadLine, IsBadSnapshot, IsBadStream, IsRefused, WantsLine}
-use Rattle.mr_follow.specs.declared.phase.Phase.{Phase}
-use Rattle.mr_follow.specs.declared.phase.Phase.TheVariants as phase
-use Rattle.mr_outs.specs.Outs.{OutsState}
-use Rattle.mr_rows.specs.State.{IsNode, NodeState, MasterAgrees, end_of}
-use Rattle.mr_rows.specs.Telling.{link_at, link_of}
-use Rattle.mr_rows.specs.UpstreamRows as master
+use Rattle.mr_replication.specs.State.{CourseState, name_of}
+use Rattle.mr_replication.specs.declared.upstream.UpstreamStep.{UpstreamStep}
+use Rattle.mr_replication.specs.declared.upstream.UpstreamStep.TheVariants as outcome
+use Rattle.mr_node_links.specs.State.{EndState, streams}
+use Rattle.mr_node_links.specs.State.EndState.{client, waiting, replica as replica_end, upstream}
+use Rattle.mr_follower.specs.State.{FollowState}
+use Rattle.mr_follower.specs.Handshake.{IsGreeting, capabilities_line, line_after, next_of, port_line, psync_line}
+use Rattle.mr_follower.specs.Rows.{IsBadLine, IsBadSnapshot, IsBadStream, IsRefused, WantsLine}
+use Rattle.mr_follower.specs.declared.phase.Phase.{Phase}
+use Rattle.mr_follower.specs.declared.phase.Phase.TheVariants as phase
+use Rattle.mr_node_output.specs.Outs.{OutsState}
+use Rattle.mr_node_spec.specs.State.{IsNode, NodeState, MasterAgrees, end_of}
+use Rattle.mr_node_spec.specs.Telling.{link_at, link_of}
+use Rattle.mr_node_spec.specs.UpstreamRows as master
 use Rattle.mr_node.specs.Calls.{Agreeing}
 use Rattle.mr_node.specs.Calls.Agreeing.{client as of_client, waiting as of_waiting, replica as of_replica, master as of_master, shut as of_shut}
 use Rattle.mr_node.specs.Parts.{role_at, role_of}

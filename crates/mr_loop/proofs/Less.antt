@@ -1,7 +1,7 @@
 -- That a step which uses something leaves less.
 use Rattle.std.proofs.Common.{◌≡◌, ◌<◌, ◌≤◌, ◌+◌, ◌++◌, inl, inr, ℕ, List, [], ◌∷◌, Bool, true, false, length, length-append, arith, cond, Option, None, Some, Result, Ok, refl, sym, ap, subst, ◌∙◌, if◌then◌else◌}
 use Rattle.std.specs.Ordering.{eq_by_cmp}
-use Rattle.std.specs.FinMap.{get, remove, get-remove}
+use Rattle.std.specs.FinMap.{get, insert, get-insert, get-remove}
 use Rattle.mr_links.specs.LinkId.{id_cmp}
 use Rattle.mr_links.specs.Links.{Links}
 use Rattle.mr_links.specs.declared.link_id.LinkId.{LinkId}
@@ -13,28 +13,28 @@ use Rattle.mr_resp.specs.Request.{IsText, IsInArray}
 use Rattle.mr_resp.specs.Usual.{usual}
 use Rattle.mr_resp.proofs.Forms.{array_star, form_of, line_some}
 use Rattle.mr_peer_lines.specs.Lines.{IsMarked, IsPeerLine, Line}
-use Rattle.mr_course.specs.State.{CourseState, name_of}
-use Rattle.mr_course.specs.declared.upstream.UpstreamStep.{UpstreamStep}
-use Rattle.mr_course.specs.declared.upstream.UpstreamStep.TheVariants as outcome
-use Rattle.mr_ends.specs.State.{EndState, Transaction}
-use Rattle.mr_ends.specs.State.EndState.{upstream}
-use Rattle.mr_follow.specs.State.{AgreesBy, FollowState, Agrees as FollowAgrees}
-use Rattle.mr_follow.specs.Lines.{Begins}
-use Rattle.mr_follow.specs.declared.phase.Phase.{Phase}
-use Rattle.mr_follow.specs.declared.phase.Phase.TheVariants.{Ping, Port, Capabilities, Psync, Snapshot, Stream}
-use Rattle.mr_follow.specs.declared.taking.Taking.{Taking}
+use Rattle.mr_replication.specs.State.{CourseState, name_of}
+use Rattle.mr_replication.specs.declared.upstream.UpstreamStep.{UpstreamStep}
+use Rattle.mr_replication.specs.declared.upstream.UpstreamStep.TheVariants as outcome
+use Rattle.mr_node_links.specs.State.{EndState, Transaction, put_end}
+use Rattle.mr_node_links.specs.State.EndState.{shut, upstream}
+use Rattle.mr_follower.specs.State.{AgreesBy, FollowState, Agrees as FollowAgrees}
+use Rattle.mr_follower.specs.Lines.{Begins}
+use Rattle.mr_follower.specs.declared.phase.Phase.{Phase}
+use Rattle.mr_follower.specs.declared.phase.Phase.TheVariants.{Ping, Port, Capabilities, Psync, Snapshot, Stream}
+use Rattle.mr_follower.specs.declared.taking.Taking.{Taking}
 use Rattle.mr_groups.specs.Groups.{IsGoodGroup, group_text}
 use Rattle.mr_groups.proofs.Runs.{some_text as some_in_group}
 use Rattle.mr_effect.specs.declared.effect.Effect.{Effect}
-use Rattle.mr_outs.specs.Outs.{OutState, OutsState, Output}
-use Rattle.mr_rows.specs.State.{IsNode, NodeState, Core, Agrees, AgreesWithin, MasterAgrees, ReplicaAgrees, end_of}
-use Rattle.mr_rows.specs.Telling.{Around}
-use Rattle.mr_rows.specs.Requests.{Asks, AsksNothing}
-use Rattle.mr_rows.specs.Served.{Served, request, nothing}
-use Rattle.mr_rows.specs.ClientRows.{ClientRow, serves, closes, halts, synchronizes, promotes, turns, demotes, begins}
-use Rattle.mr_rows.specs.Transactions.{WithinRow}
-use Rattle.mr_rows.specs.ReplicaRows.{IsExpected, ReplicaRow, acknowledgement, nothing as expects_nothing, notes, parts}
-use Rattle.mr_rows.specs.LinkRows.{closed_at, follow_without}
+use Rattle.mr_node_output.specs.Outs.{OutState, OutsState, Output}
+use Rattle.mr_node_spec.specs.State.{IsNode, NodeState, Core, Agrees, AgreesWithin, MasterAgrees, ReplicaAgrees, end_of}
+use Rattle.mr_node_spec.specs.Telling.{Around}
+use Rattle.mr_node_spec.specs.Requests.{Asks, AsksNothing}
+use Rattle.mr_node_spec.specs.Served.{Served, request, nothing}
+use Rattle.mr_node_spec.specs.ClientRows.{ClientRow, serves, closes, halts, synchronizes, promotes, turns, demotes, begins}
+use Rattle.mr_node_spec.specs.Transactions.{WithinRow}
+use Rattle.mr_node_spec.specs.ReplicaRows.{IsExpected, ReplicaRow, acknowledgement, nothing as expects_nothing, notes, parts}
+use Rattle.mr_node_spec.specs.LinkRows.{closed_at, follow_without}
 use Rattle.mr_node.specs.Calls.{Agreeing}
 use Rattle.mr_node.specs.Calls.Agreeing.{client as of_client, waiting as of_waiting, replica as of_replica, master as of_master, shut as of_shut}
 use Rattle.mr_node.specs.Steps.{Steps}
@@ -164,15 +164,15 @@ heard_less a b l u came h agrees here there g reads rest behind less =
     let b_in : left_in (end_of b l) ≡ 1 = ap left_in there in
     omega (arith, before, after, a_in, b_in, less)
 
-gone_less : (a b : NodeState) (l : LinkId) → end_of a l ≡ Some upstream → end_of b l ≡ None → b.follow ≡ None → left_at b l < left_at a l
-gone_less a b l here gone nobody =
+shut_less : (a b : NodeState) (l : LinkId) → end_of a l ≡ Some upstream → end_of b l ≡ Some shut → b.follow ≡ None → left_at b l < left_at a l
+shut_less a b l here closed nobody =
     let a_in : left_in (end_of a l) ≡ 1 = ap left_in here in
-    let b_in : left_in (end_of b l) ≡ 0 = ap left_in gone in
+    let b_in : left_in (end_of b l) ≡ 0 = ap left_in closed in
     let none : left_of l b.follow ≡ 0 = ap (left_of l) nobody in
     omega (arith, a_in, b_in, none)
 
-removed_there : (l : LinkId) (ends : Links EndState) → get (remove ends.open_links l) l ≡ None
-removed_there l ends = get-remove ids_total ends.open_links l l ∙ ap (λ b. cond b None (get ends.open_links l)) (itself l)
+shut_there : (l : LinkId) (ends : Links EndState) → get (insert ends.open_links l shut) l ≡ Some shut
+shut_there l ends = get-insert ids_total ends.open_links l shut l ∙ ap (λ b. cond b (Some shut) (get ends.open_links l)) (itself l)
 
 group_some : (told : List ℕ) (group : List Effect) → IsGoodGroup group → told ≡ group_text group → 0 < length told
 group_some told group good is = omega (arith, ap length is, some_in_group group good)
@@ -182,8 +182,8 @@ module _ (a b : NodeState) (l : LinkId) (u : List ℕ) where
   reads_less : (came : UpstreamStep) (h : Heard a l u came b) → FollowAgrees h.reader u → end_of a l ≡ Some upstream → b.ends ≡ a.ends → h.course.follow ≡ Some (l, h.next) → (rest : List ℕ) → FollowAgrees h.next rest → length rest < length u → left_at b l < left_at a l
   reads_less came h agrees here ends reads rest behind less = heard_less a b l u came h agrees here (ap (λ (z : Links EndState). get z.open_links l) ends ∙ here) h.next (h.follow ∙ reads) rest behind less
 
-  leaves_less : (came : UpstreamStep) (h : Heard a l u came b) → end_of a l ≡ Some upstream → b.ends ≡ record a.ends { open_links = remove a.ends.open_links l } → h.course.follow ≡ None → left_at b l < left_at a l
-  leaves_less came h here ends nobody = gone_less a b l here (ap (λ (z : Links EndState). get z.open_links l) ends ∙ removed_there l a.ends) (h.follow ∙ nobody)
+  leaves_less : (came : UpstreamStep) (h : Heard a l u came b) → end_of a l ≡ Some upstream → b.ends ≡ put_end a.ends l shut → h.course.follow ≡ None → left_at b l < left_at a l
+  leaves_less came h here ends nobody = shut_less a b l here (ap (λ (z : Links EndState). get z.open_links l) ends ∙ shut_there l a.ends) (h.follow ∙ nobody)
 
   master_less : (came : UpstreamStep) (h : Heard a l u came b) → (came ≡ outcome.Idle → ⊥) → FollowAgrees h.reader u → end_of a l ≡ Some upstream → left_at b l < left_at a l
   master_less outcome.Idle h some agrees here = absurd (some refl)

@@ -6,9 +6,9 @@ use Rattle.std.specs.FinMap.{get-remove}
 use Rattle.mr_links.specs.LinkId.{id_cmp}
 use Rattle.mr_links.specs.declared.link_id.LinkId.{LinkId}
 use Rattle.mr_links.proofs.LinkRows.{ids_total}
-use Rattle.mr_outs.specs.Outs.{OutState, grow, append, replace, send, close, use_id, follow, halt}
-use Rattle.mr_rows.specs.State.{NodeState, end_of}
-use Rattle.mr_rows.specs.LinkRows.{closed_at}
+use Rattle.mr_node_output.specs.Outs.{OutState, grow, append, replace, send, close, use_id, follow, halt}
+use Rattle.mr_node_spec.specs.State.{NodeState, end_of}
+use Rattle.mr_node_spec.specs.LinkRows.{closed_at}
 use Rattle.mr_connections.specs.State.{ConnectionState, HasLink, Rows, is_link, left, pushed, sent, parted, where_linked, with_each}
 use Rattle.mr_connections.proofs.Each.{get-with_each}
 use Rattle.mr_loop.specs.Stage.{Stage, LoopState}

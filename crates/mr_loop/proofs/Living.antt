@@ -3,18 +3,18 @@ use Rattle.std.proofs.Common.{refl, ◌≡◌, ◌≢◌, ℕ, ℤ, List, [], �
 use Rattle.mr_links.specs.declared.link_id.LinkId.{LinkId}
 use Rattle.mr_file.specs.declared.sync_mode.SyncMode.{SyncMode}
 use Rattle.mr_data.specs.declared.given.Given.{Given}
-use Rattle.mr_course.specs.declared.upstream.UpstreamStep.{UpstreamStep}
-use Rattle.mr_outs.specs.Outs.{OutsState, Output, outs_of}
-use Rattle.mr_ends.specs.State.{Transaction}
-use Rattle.mr_rows.specs.State.{NodeState, Core}
-use Rattle.mr_rows.specs.Telling.{Around}
-use Rattle.mr_rows.specs.Served.{Answered, Served, within, beyond, rewritten, tells as told_of, keeps_role, request, nothing}
-use Rattle.mr_rows.specs.ClientRows.{ClientRow, serves, closes as shuts, halts, synchronizes, promotes, turns, demotes, begins}
-use Rattle.mr_rows.specs.Transactions.{WithinRow}
-use Rattle.mr_rows.specs.ReplicaRows.{ReplicaRow, notes, parts}
-use Rattle.mr_rows.specs.UpstreamRows as master
-use Rattle.mr_rows.specs.TimeRows.{TickRow, deletes, rests}
-use Rattle.mr_course.specs.State.{name_of}
+use Rattle.mr_replication.specs.declared.upstream.UpstreamStep.{UpstreamStep}
+use Rattle.mr_node_output.specs.Outs.{OutsState, Output, outs_of}
+use Rattle.mr_node_links.specs.State.{Transaction}
+use Rattle.mr_node_spec.specs.State.{NodeState, Core}
+use Rattle.mr_node_spec.specs.Telling.{Around}
+use Rattle.mr_node_spec.specs.Served.{Answered, Served, within, beyond, rewritten, tells as told_of, keeps_role, request, nothing}
+use Rattle.mr_node_spec.specs.ClientRows.{ClientRow, serves, closes as shuts, halts, synchronizes, promotes, turns, demotes, begins}
+use Rattle.mr_node_spec.specs.Transactions.{WithinRow}
+use Rattle.mr_node_spec.specs.ReplicaRows.{ReplicaRow, notes, parts}
+use Rattle.mr_node_spec.specs.UpstreamRows as master
+use Rattle.mr_node_spec.specs.TimeRows.{TickRow, deletes, rests}
+use Rattle.mr_replication.specs.State.{name_of}
 use Rattle.mr_node.specs.Calls.{Agreeing}
 use Rattle.mr_node.specs.Calls.Agreeing.{client, waiting, replica, master as upstream, shut}
 use Rattle.mr_node.specs.Steps.{ClientStep, MasterStep, ReplicaStep, Steps}

@@ -3,8 +3,8 @@ use Rattle.std.proofs.Common.{rules, ℕ, List, [], ◌∷◌, refl, inl, inr, l
 use Rattle.mr_inline.specs.Language.{Continues}
 use Rattle.mr_peer_lines.specs.Lines.{IsLineText}
 use Rattle.mr_peer_lines.proofs.Ends.{nothing_yet}
-use Rattle.mr_follow.specs.State.{started}
-use Rattle.mr_rows.specs.Requests.{Waits}
+use Rattle.mr_follower.specs.State.{started}
+use Rattle.mr_node_spec.specs.Requests.{Waits}
 use Rattle.mr_loop.specs.Quiet.{Awaits}
 
 -- a request may follow nothing

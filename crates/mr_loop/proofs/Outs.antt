@@ -5,15 +5,15 @@ use Rattle.mr_links.specs.declared.link_id.LinkId.{LinkId}
 use Rattle.mr_data.specs.declared.given.Given.{Given}
 use Rattle.mr_source.specs.Drawn.{DrawnState, with_moment}
 use Rattle.mr_file.specs.declared.sync_mode.SyncMode.{SyncMode}
-use Rattle.mr_follow.specs.State.{FollowState, Agrees as FollowAgrees}
-use Rattle.mr_course.specs.State.{CourseState, name_of}
+use Rattle.mr_follower.specs.State.{FollowState, Agrees as FollowAgrees}
+use Rattle.mr_replication.specs.State.{CourseState, name_of}
 use Rattle.mr_connections.specs.State.{HasLink, parted, sent}
-use Rattle.mr_ends.specs.State.{EndState, Transaction}
-use Rattle.mr_ends.specs.State.EndState.{client as an_end, waiting as open_end, replica as a_replica, upstream as a_master, shut as closed}
-use Rattle.mr_outs.specs.Outs.{OutState, OutsState, append, close, grown_outs, outs_of, replace, send}
-use Rattle.mr_rows.specs.State.{MasterAgrees, NodeState, end_of}
-use Rattle.mr_rows.specs.LinkRows.{closed_at}
-use Rattle.mr_rows.specs.UpstreamRows as upstream
+use Rattle.mr_node_links.specs.State.{EndState, Transaction}
+use Rattle.mr_node_links.specs.State.EndState.{client as an_end, waiting as open_end, replica as a_replica, upstream as a_master, shut as closed}
+use Rattle.mr_node_output.specs.Outs.{OutState, OutsState, append, close, grown_outs, outs_of, replace, send}
+use Rattle.mr_node_spec.specs.State.{MasterAgrees, NodeState, end_of}
+use Rattle.mr_node_spec.specs.LinkRows.{closed_at}
+use Rattle.mr_node_spec.specs.UpstreamRows as upstream
 use Rattle.mr_node.specs.Calls.{Agreeing, IsClients}
 use Rattle.mr_node.specs.Calls.IsClients.{alone, within}
 use Rattle.mr_node.specs.Calls.Agreeing.{client, waiting, replica, master, shut}

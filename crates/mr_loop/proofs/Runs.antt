@@ -1,5 +1,6 @@
 -- Events one after another, what is counted in them, and what a fault leaves.
-use Rattle.std.proofs.Common.{◌≡◌, ◌<◌, ◌≤ℤ◌, inl, inr, Bool, true, false, List, [], ◌∷◌, ◌++◌, ℕ, ℤ, zero, suc, ◌+◌, arith, None, Some, Result, Ok, Err, append_assoc, refl, sym, ap, subst, ◌∙◌}
+use Rattle.std.proofs.Common.{◌≡◌, ◌<◌, ◌≤◌, ◌≤ℤ◌, ◌⊎◌, inl, inr, Bool, true, false, ◌||◌, if◌then◌else◌, List, [], ◌∷◌, ◌++◌, ℕ, ℤ, zero, suc, ◌+◌, arith, Option, None, Some, Result, Ok, Err, append_assoc, refl, sym, ap, subst, ◌∙◌}
+use Rattle.mr_links.specs.declared.link_id.LinkId.{LinkId}
 use Rattle.mr_file.specs.declared.sync_mode.SyncMode.{SyncMode}
 use Rattle.mr_source.specs.Drawn.{DrawnState, with_id, with_moment}
 use Rattle.mr_loop.specs.declared.fault.LoopFault.{LoopFault}
@@ -7,10 +8,12 @@ use Rattle.mr_loop.specs.declared.fault.LoopFault.TheVariants as fault
 use Rattle.mr_loop.specs.declared.told.Turn.{Turn}
 use Rattle.mr_loop.specs.declared.followed.Followed.{Followed}
 use Rattle.mr_loop.specs.Stage.{Stage}
-use Rattle.mr_loop.specs.Rows.{Event, fault_of, Happens, HasWaited, IsToldToStop, Run, Went, spills, tears, fails, stops, wakes}
+use Rattle.mr_loop.specs.Rows.{Event, fault_of, Happens, HasWaited, IsToldToStop, Run, Went, spills, takes, tears, fails, stops, wakes}
 use Rattle.mr_loop.specs.Giving.{IsGiven, Supplies, moments_by}
-use Rattle.mr_loop.specs.Counting.{calls_by, uses_by, ids_by, deaf_by, news_by, ticks_by, counted, followed_by, heard_if, raised, sum_in, CountsOn, CountsStill, MomentState, TellsOf}
-use Rattle.mr_loop.specs.Outcomes.{BreaksDown, Broke, Does, Ends, Fails, HasBroken, HasTurned, Serves, Turns, TurnsOn}
+use Rattle.mr_loop.specs.Lacking.{lacked_since}
+use Rattle.mr_loop.specs.Counting.{MeetsLimit, accepts_by, by_accepts, by_reads, by_ticks, misses_by, most_ticks, calls_by, pieces_by, uses_by, ids_by, deaf_by, news_by, ticks_by, counted, followed_by, heard_if, most_accepted, most_pieces, raised, sum_in, CountsOn, CountsStill, MomentState, Reaches, ReachesAny, TellsOf}
+use Rattle.mr_loop.specs.Outcomes.{BreaksDown, Broke, Does, DoesUpTo, DoesUpToAny, Ends, Fails, HasBroken, HasTurned, Serves, Turns, TurnsOn}
+use Rattle.mr_loop.proofs.Waiting.{itself}
 use Rattle.mr_loop.proofs.Supplying.{Tells, supplies_first, supplies_none, supplies_on, supplies_one, tells_none}
 
 pub run_append : (tells : Bool) (mode : SyncMode) (xs ys : List Event) (a b c : Stage) → Run tells mode a xs b → Run tells mode b ys c → Run tells mode a (xs ++ ys) c
@@ -63,7 +66,7 @@ counts_on {tells} {mode} {old} {mid} {new} x y = record {
   followed_are = followed_on x.went.events y.went.events old.turn.followed mid.turn.followed new.turn.followed x.followed_are y.followed_are;
 }
 
-pub still_on : {tells : Bool} {mode : SyncMode} {old mid new : MomentState} {a b c : Stage} → CountsStill tells mode old mid a b → CountsStill tells mode mid new b c → CountsStill tells mode old new a c
+abbrev pub still_on : {tells : Bool} {mode : SyncMode} {old mid new : MomentState} {a b c : Stage} → CountsStill tells mode old mid a b → CountsStill tells mode mid new b c → CountsStill tells mode old new a c
 still_on x y = record {
   counts = counts_on x.counts y.counts;
   no_tick = sum_append ticks_by x.counts.went.events y.counts.went.events ∙ omega (arith, x.no_tick, y.no_tick);
@@ -81,7 +84,7 @@ counts_none moment s = record {
   followed_are = refl;
 }
 
-pub still_here : {tells : Bool} {mode : SyncMode} (moment : MomentState) (s : Stage) → CountsStill tells mode moment moment s s
+abbrev pub still_here : {tells : Bool} {mode : SyncMode} (moment : MomentState) (s : Stage) → CountsStill tells mode moment moment s s
 still_here moment s = record { counts = counts_none moment s; no_tick = refl }
 
 -- .. as two equations say
@@ -112,14 +115,14 @@ pub supplies_same : (e : Event) (old new : MomentState) → moments_by e ≡ [] 
 supplies_same e old new no_moment none fresh drawn = gives_none e old new (none (old.fresh ∷ [])) fresh (subst (λ ms. Tells ms old.drawn new.drawn) (sym no_moment) (tells_none drawn))
 
 -- .. that is no tick
-pub still_event : {tells : Bool} {mode : SyncMode} {s t : Stage} (e : Event) (old new : MomentState) → fault_of e ≡ None → ticks_by e ≡ 0 → Happens tells mode s e t
+abbrev pub still_event : {tells : Bool} {mode : SyncMode} {s t : Stage} (e : Event) (old new : MomentState) → fault_of e ≡ None → ticks_by e ≡ 0 → Happens tells mode s e t
     → Supplies (old.fresh ∷ []) old.drawn (e ∷ []) (new.fresh ∷ []) new.drawn
     → new.turn.steps ≡ raised (calls_by e) old.turn.steps → new.turn.done ≡ raised (uses_by e) old.turn.done → new.turn.used ≡ raised (ids_by e) old.turn.used → new.turn.deaf ≡ raised (deaf_by e) old.turn.deaf
     → new.turn.followed ≡ heard_if (news_by e) old.turn.followed → CountsStill tells mode old new s t
 still_event e old new goes_on none h given steps done used deaf followed = record { counts = counts_event e old new goes_on h given steps done used deaf followed; no_tick = sum_one ticks_by e ∙ none }
 
 -- .. of which nothing is counted
-pub still_one : {tells : Bool} {mode : SyncMode} {s t : Stage} (e : Event) (old new : MomentState) → fault_of e ≡ None → ticks_by e ≡ 0 → calls_by e ≡ 0 → uses_by e ≡ 0 → ids_by e ≡ 0 → deaf_by e ≡ 0 → news_by e ≡ None
+abbrev pub still_one : {tells : Bool} {mode : SyncMode} {s t : Stage} (e : Event) (old new : MomentState) → fault_of e ≡ None → ticks_by e ≡ 0 → calls_by e ≡ 0 → uses_by e ≡ 0 → ids_by e ≡ 0 → deaf_by e ≡ 0 → news_by e ≡ None
     → moments_by e ≡ [] → ((ids : List (List ℕ)) → IsGiven ids e ids) → Happens tells mode s e t → new ≡ old → CountsStill tells mode old new s t
 still_one e old new goes_on no_tick calls uses ids deaf news no_moment none h same = still_event e old new goes_on no_tick h
     (supplies_same e old new no_moment none (ap (λ (m : MomentState). m.fresh) same) (ap (λ (m : MomentState). m.drawn) same))
@@ -128,6 +131,92 @@ still_one e old new goes_on no_tick calls uses ids deaf news no_moment none h sa
     (ap (λ (m : MomentState). m.turn.used) same ∙ ap (λ k. raised k old.turn.used) (sym ids))
     (ap (λ (m : MomentState). m.turn.deaf) same ∙ ap (λ k. raised k old.turn.deaf) (sym deaf))
     (ap (λ (m : MomentState). m.turn.followed) same ∙ ap (λ n. heard_if n old.turn.followed) (sym news))
+
+-- the mode of a log stays
+pub still_moded : {tells : Bool} {old new : MomentState} {a b : Stage} (m n : SyncMode) → m ≡ n → CountsStill tells m old new a b → CountsStill tells n old new a b
+still_moded {tells} {old} {new} {a} {b} m n e x = subst (λ k. CountsStill tells k old new a b) e x
+
+-- ---- limits
+
+no_more : {A : Type 0} → ◌≡◌ {A = Bool} false true → A
+no_more e = absurd (let wrong : true ≡ false = sym e in cc)
+
+-- where there is no more
+pub reaches_still : {tells : Bool} {mode : SyncMode} {old new : MomentState} {s t : Stage} (f : Event → ℕ) (most : ℕ) → CountsStill tells mode old new s t → Reaches tells mode f most false old new s t
+reaches_still f most x = record { still = x; met = λ e. no_more e }
+
+pub reaches_none : {tells : Bool} {mode : SyncMode} {old new : MomentState} {s t : Stage} (f : Event → ℕ) (more : Bool) → CountsStill tells mode old new s t → Reaches tells mode f 0 more old new s t
+reaches_none f more x = record { still = x; met = λ e. omega arith }
+
+-- one event, as above
+pub reaches_one : {tells : Bool} {mode : SyncMode} {s t : Stage} (f : Event → ℕ) (more : Bool) (e : Event) (old new : MomentState) → fault_of e ≡ None → ticks_by e ≡ 0 → calls_by e ≡ 0 → uses_by e ≡ 0 → ids_by e ≡ 0 → deaf_by e ≡ 0 → news_by e ≡ None
+    → moments_by e ≡ [] → ((ids : List (List ℕ)) → IsGiven ids e ids) → Happens tells mode s e t → new ≡ old → 1 ≤ f e → Reaches tells mode f 1 more old new s t
+reaches_one f more e old new goes_on no_tick calls uses ids deaf news no_moment none h same one = record { still = still_one e old new goes_on no_tick calls uses ids deaf news no_moment none h same; met = λ is. omega (arith, one, sum_one f e) }
+
+-- and once more
+pub reaches_next : {tells : Bool} {mode : SyncMode} {old mid new : MomentState} {a b c : Stage} (f : Event → ℕ) (n : ℕ) (more : Bool) → more ≡ true → Reaches tells mode f n true old mid a b → Reaches tells mode f 1 more mid new b c
+    → Reaches tells mode f (n + 1) true old new a c
+reaches_next f n more is x y = record { still = still_on x.still y.still; met = λ e. omega (arith, sum_append f x.still.counts.went.events y.still.counts.went.events, x.met refl, y.met is) }
+
+-- what goes on behind changes nothing of it
+pub reaches_behind : {tells : Bool} {mode : SyncMode} {old mid new : MomentState} {a b c : Stage} (f : Event → ℕ) (n : ℕ) (more : Bool) → Reaches tells mode f n more old mid a b → CountsStill tells mode mid new b c → Reaches tells mode f n more old new a c
+reaches_behind f n more x y = record { still = still_on x.still y; met = λ e. omega (arith, sum_append f x.still.counts.went.events y.counts.went.events, x.met e) }
+
+pub reaches_as : {tells : Bool} {mode : SyncMode} {old new : MomentState} {s t : Stage} (f : Event → ℕ) (m n : ℕ) (more : Bool) → m ≡ n → Reaches tells mode f m more old new s t → Reaches tells mode f n more old new s t
+reaches_as {tells} {mode} {old} {new} {s} {t} f m n more e x = subst (λ k. Reaches tells mode f k more old new s t) e x
+
+pub reaches_moded : {tells : Bool} {old new : MomentState} {s t : Stage} {f : Event → ℕ} {most : ℕ} {more : Bool} (m n : SyncMode) → m ≡ n → Reaches tells m f most more old new s t → Reaches tells n f most more old new s t
+reaches_moded {tells} {old} {new} {s} {t} {f} {most} {more} m n e x = subst (λ k. Reaches tells k f most more old new s t) e x
+
+pub up_to_broke : {tells : Bool} {mode : SyncMode} {s t : Stage} (f : Event → ℕ) (most : ℕ) (old new : MomentState) (r : Result Bool LoopFault) (why : LoopFault) → r ≡ Err why → HasBroken tells mode why old new s t → DoesUpTo tells mode f most r old new s t
+up_to_broke {tells} {mode} {s} {t} f most old new r why e b = subst (λ (z : Result Bool LoopFault). DoesUpTo tells mode f most z old new s t) (sym e) b
+
+-- a piece of a connection is one of its
+pub own_piece : (k : LinkId) (bytes : List ℕ) → 1 ≤ pieces_by k (takes k bytes)
+own_piece k bytes = let one : pieces_by k (takes k bytes) ≡ 1 = ap (λ b. if b then 1 else 0) (itself k) in omega (arith, one)
+
+-- .. of the pieces of some connection
+pub any_still : {tells : Bool} {mode : SyncMode} {old new : MomentState} {s t : Stage} (most : ℕ) → CountsStill tells mode old new s t → ReachesAny tells mode most false old new s t
+any_still most x = record { still = x; met = λ e. no_more e }
+
+pub any_of : {tells : Bool} {mode : SyncMode} {old new : MomentState} {s t : Stage} (most : ℕ) (more : Bool) (k : LinkId) → Reaches tells mode (pieces_by k) most more old new s t → ReachesAny tells mode most more old new s t
+any_of most more k x = record { still = x.still; met = λ e. (k, x.met e) }
+
+pub any_behind : {tells : Bool} {mode : SyncMode} {old mid new : MomentState} {a b c : Stage} (n : ℕ) (more : Bool) → ReachesAny tells mode n more old mid a b → CountsStill tells mode mid new b c → ReachesAny tells mode n more old new a c
+any_behind n more x y = record { still = still_on x.still y; met = λ e. let h = x.met e in (h.0, omega (arith, sum_append (pieces_by h.0) x.still.counts.went.events y.counts.went.events, h.1)) }
+
+pub any_on : {tells : Bool} {mode : SyncMode} {old mid new : MomentState} {a b c : Stage} (n : ℕ) (p q : Bool) → ReachesAny tells mode n p old mid a b → ReachesAny tells mode n q mid new b c → ReachesAny tells mode n (p || q) old new a c
+any_on n true q x y = record { still = still_on x.still y.still; met = λ e. let h = x.met refl in (h.0, omega (arith, sum_append (pieces_by h.0) x.still.counts.went.events y.still.counts.went.events, h.1)) }
+any_on n false q x y = record { still = still_on x.still y.still; met = λ e. let h = y.met e in (h.0, omega (arith, sum_append (pieces_by h.0) x.still.counts.went.events y.still.counts.went.events, h.1)) }
+
+pub any_moded : {tells : Bool} {old new : MomentState} {s t : Stage} {most : ℕ} {more : Bool} (m n : SyncMode) → m ≡ n → ReachesAny tells m most more old new s t → ReachesAny tells n most more old new s t
+any_moded {tells} {old} {new} {s} {t} {most} {more} m n e x = subst (λ k. ReachesAny tells k most more old new s t) e x
+
+pub any_broke : {tells : Bool} {mode : SyncMode} {s t : Stage} (most : ℕ) (old new : MomentState) (r : Result Bool LoopFault) (why : LoopFault) → r ≡ Err why → HasBroken tells mode why old new s t → DoesUpToAny tells mode most r old new s t
+any_broke {tells} {mode} {s} {t} most old new r why e b = subst (λ (z : Result Bool LoopFault). DoesUpToAny tells mode most z old new s t) (sym e) b
+
+-- links that were accepted, and pieces that were read behind that
+pub record Limited (tells : Bool) (mode : SyncMode) (accepts reads : Bool) (old new : MomentState) (s t : Stage) : Type 0 where
+  pub still : CountsStill tells mode old new s t
+  pub accepted : accepts ≡ true → most_accepted ≤ sum_in accepts_by still.counts.went.events
+  pub read : reads ≡ true → (k : LinkId) × (most_pieces ≤ sum_in (pieces_by k) still.counts.went.events)
+
+pub limited_of : {tells : Bool} {mode : SyncMode} {old mid new : MomentState} {a b c : Stage} (accepts reads : Bool) (m : SyncMode) → m ≡ mode → Reaches tells mode accepts_by most_accepted accepts old mid a b → ReachesAny tells m most_pieces reads mid new b c
+    → Limited tells mode accepts reads old new a c
+limited_of {tells} {mode} {old} {mid} {new} {a} {b} {c} accepts reads m e x z =
+    let y = any_moded m mode e z in record {
+      still = still_on x.still y.still;
+      accepted = λ is. omega (arith, sum_append accepts_by x.still.counts.went.events y.still.counts.went.events, x.met is);
+      read = λ is. let h = y.met is in (h.0, omega (arith, sum_append (pieces_by h.0) x.still.counts.went.events y.still.counts.went.events, h.1));
+    }
+
+pub limited_on : {tells : Bool} {mode : SyncMode} {accepts reads : Bool} {old mid new : MomentState} {a b c : Stage} (m : SyncMode) → m ≡ mode → Limited tells mode accepts reads old mid a b → CountsStill tells m mid new b c → Limited tells mode accepts reads old new a c
+limited_on {tells} {mode} {accepts} {reads} {old} {mid} {new} {a} {b} {c} m e x z =
+    let y = still_moded m mode e z in record {
+      still = still_on x.still y;
+      accepted = λ is. omega (arith, sum_append accepts_by x.still.counts.went.events y.counts.went.events, x.accepted is);
+      read = λ is. let h = x.read is in (h.0, omega (arith, sum_append (pieces_by h.0) x.still.counts.went.events y.counts.went.events, h.1));
+    }
 
 -- ---- faults
 
@@ -156,10 +245,6 @@ still_broke x y = counts_broke x.counts y
 -- what answers a fault broke
 pub breaks : {A : Type 0} {tells : Bool} {mode : SyncMode} {s t : Stage} (old new : MomentState) (r : Result A LoopFault) (why : LoopFault) → r ≡ Err why → HasBroken tells mode why old new s t → Does tells mode r old new s t
 breaks {A} {tells} {mode} {s} {t} old new r why e b = subst (λ (z : Result A LoopFault). Does tells mode z old new s t) (sym e) b
-
--- the mode of a log stays
-pub still_moded : {tells : Bool} {old new : MomentState} {a b : Stage} (m n : SyncMode) → m ≡ n → CountsStill tells m old new a b → CountsStill tells n old new a b
-still_moded {tells} {old} {new} {a} {b} m n e x = subst (λ k. CountsStill tells k old new a b) e x
 
 pub counts_moded : {tells : Bool} {old new : MomentState} {a b : Stage} (m n : SyncMode) → m ≡ n → CountsOn tells m old new a b → CountsOn tells n old new a b
 counts_moded {tells} {old} {new} {a} {b} m n e x = subst (λ k. CountsOn tells k old new a b) e x
@@ -197,6 +282,16 @@ breaks_down {tells} {mode} {unused} {drawn} {after} {s} {b} {t} fault.Stopped br
 still_zero : (f : Event → ℕ) (e : Event) (es : List Event) → f e ≡ 0 → sum_in f (e ∷ es) ≡ sum_in f es
 still_zero f e es none = omega (arith, none)
 
+waited_keeps : (now : ℤ) (es : List Event) (most : ℕ) (P : Type 0) → ((sum_in ticks_by es ≡ most) × P) ⊎ (0 < sum_in misses_by es)
+    → ((sum_in ticks_by (wakes now ∷ es) ≡ most) × P) ⊎ (0 < sum_in misses_by (wakes now ∷ es))
+waited_keeps now es most P (inl kept) = inl (still_zero ticks_by (wakes now) es refl ∙ kept.0, kept.1)
+waited_keeps now es most P (inr missed) = inr (omega (arith, missed, still_zero misses_by (wakes now) es refl))
+
+waited_limit : (now : ℤ) (done : ℕ) (es : List Event) → MeetsLimit done es → MeetsLimit done (wakes now ∷ es)
+waited_limit now done es (by_accepts many) = by_accepts (omega (arith, many, still_zero accepts_by (wakes now) es refl))
+waited_limit now done es (by_reads k many) = by_reads k (omega (arith, many, still_zero (pieces_by k) (wakes now) es refl))
+waited_limit now done es (by_ticks ticked missed) = by_ticks (still_zero ticks_by (wakes now) es refl ∙ ticked) (still_zero misses_by (wakes now) es refl ∙ missed)
+
 abbrev waited_went : {tells : Bool} {mode : SyncMode} {s m t : Stage} (now : ℤ) → HasWaited s m → Went tells mode m t → Went tells mode s t
 waited_went {tells} {mode} {s} {m} {t} now wakes_up w = record { events = wakes now ∷ w.events; run = (m, refl, wakes_up, w.run) }
 
@@ -230,8 +325,10 @@ waited_turns tells mode id now drawn first after s m t (Ok turn) is forward wake
   followed_are = h.followed_are;
   ticked = omega (arith, h.ticked, still_zero ticks_by (wakes now) h.went.events refl);
   few = omega (arith, h.few, still_zero ticks_by (wakes now) h.went.events refl);
-  keeps_up = λ due. let kept = h.keeps_up due in (still_zero ticks_by (wakes now) h.went.events refl ∙ kept.0, kept.1);
+  keeps_up = λ due. waited_keeps now h.went.events (most_ticks turn.done) (t.own.hurries ≡ true) (h.keeps_up due);
+  hurries_for = λ hurried. waited_limit now turn.done h.went.events (h.hurries_for hurried);
   halted = h.halted;
+  lacked_is = h.lacked_is ∙ ap (λ (z : Stage). lacked_since z.own.lacked t.own.lacked) wakes_up.is;
 }
 waited_turns tells mode id now drawn first after s m t (Err fault.Listener) is forward wakes_up other h = absurd (other refl)
 waited_turns tells mode id now drawn first after s m t (Err fault.File) is forward wakes_up other h = waited_down id now first is forward wakes_up h

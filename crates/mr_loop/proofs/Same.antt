@@ -2,7 +2,7 @@
 use Rattle.std.proofs.Common.{ℕ, refl, ap, ◌∙◌}
 use Rattle.std.specs.Borrow.{MutBor}
 use Rattle.mr_aof.specs.declared.log.Log.{Log}
-use Rattle.mr_rows.specs.State.{NodeState}
+use Rattle.mr_node_spec.specs.State.{NodeState}
 use Rattle.mr_loop.specs.declared.host.Host.{Host}
 use Rattle.mr_loop.specs.Hosts.{IsSame}
 use Rattle.mr_loop.specs.Stage.{LoopState}

@@ -10,7 +10,7 @@ use Rattle.mr_links.proofs.LinkRows.{ids_total}
 use Rattle.mr_file.specs.declared.sync_mode.SyncMode.{SyncMode}
 use Rattle.mr_file.specs.declared.sync_mode.SyncMode.TheVariants as sync
 use Rattle.mr_file.specs.LogFile.{IsSynced}
-use Rattle.mr_outs.specs.Outs.{OutState, OutsState, grow, append, replace, send, close, use_id, follow, halt, outs_of}
+use Rattle.mr_node_output.specs.Outs.{OutState, OutsState, grow, append, replace, send, close, use_id, follow, halt, outs_of}
 use Rattle.mr_wire.specs.Wire.{LinkState, Opens, WireState, asked_link, count_of}
 use Rattle.mr_connections.specs.State.{ConnectionState, begun, changed, left, pushed, where_linked, wrote}
 use Rattle.mr_connections.proofs.Changed.{get-changed}

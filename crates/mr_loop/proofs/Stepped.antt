@@ -1,30 +1,30 @@
 -- What a step leaves: of other links what was there, and of its own link nothing whole, or less.
 use Rattle.std.proofs.Common.{◌≡◌, ◌≢◌, ℕ, List, true, false, cond, Option, None, Some, Result, Ok, refl, sym, ap, subst, ◌∙◌}
 use Rattle.std.specs.Ordering.{eq_by_cmp}
-use Rattle.std.specs.FinMap.{get, remove, get-remove}
+use Rattle.std.specs.FinMap.{get, insert, get-insert}
 use Rattle.mr_links.specs.LinkId.{id_cmp}
 use Rattle.mr_links.specs.Links.{Links}
 use Rattle.mr_links.specs.declared.link_id.LinkId.{LinkId}
 use Rattle.mr_links.proofs.LinkRows.{ids_total}
 use Rattle.mr_data.specs.declared.given.Given.{Given}
-use Rattle.mr_entries.specs.Dataset.{Dataset}
-use Rattle.mr_course.specs.State.{CourseState, name_of}
-use Rattle.mr_course.specs.Rows.{Listens, UpstreamRow}
-use Rattle.mr_course.specs.declared.upstream.UpstreamStep.{UpstreamStep}
-use Rattle.mr_course.specs.declared.upstream.UpstreamStep.TheVariants as outcome
-use Rattle.mr_ends.specs.State.{EndState, Transaction}
-use Rattle.mr_ends.specs.State.EndState.{client, waiting, replica, shut, upstream}
-use Rattle.mr_ends.specs.Replicas.{is_named}
-use Rattle.mr_follow.specs.State.{FollowState, Agrees as FollowAgrees}
-use Rattle.mr_outs.specs.Outs.{OutsState}
-use Rattle.mr_follow.specs.Rows as follow
-use Rattle.mr_rows.specs.State.{FollowedAt, IsNode, NodeState, Agrees, AgreesWithin, IsShut, MasterAgrees, ReplicaAgrees, course_of, end_of}
-use Rattle.mr_rows.specs.Ends.{Leaves, Settles}
-use Rattle.mr_rows.specs.Requests.{Waits}
-use Rattle.mr_rows.specs.ClientRows.{ClientRow, serves, closes, halts, synchronizes, promotes, turns, demotes, begins}
-use Rattle.mr_rows.specs.Transactions.{WithinRow}
-use Rattle.mr_rows.specs.ReplicaRows.{ReplicaRow, notes, parts}
-use Rattle.mr_rows.specs.UpstreamRows as master
+use Rattle.mr_keyspace.specs.Dataset.{Dataset}
+use Rattle.mr_replication.specs.State.{CourseState, name_of}
+use Rattle.mr_replication.specs.Rows.{Listens, UpstreamRow}
+use Rattle.mr_replication.specs.declared.upstream.UpstreamStep.{UpstreamStep}
+use Rattle.mr_replication.specs.declared.upstream.UpstreamStep.TheVariants as outcome
+use Rattle.mr_node_links.specs.State.{EndState, Transaction}
+use Rattle.mr_node_links.specs.State.EndState.{client, waiting, replica, shut, upstream}
+use Rattle.mr_node_links.specs.Replicas.{is_named}
+use Rattle.mr_follower.specs.State.{FollowState, Agrees as FollowAgrees}
+use Rattle.mr_node_output.specs.Outs.{OutsState}
+use Rattle.mr_follower.specs.Rows as follow
+use Rattle.mr_node_spec.specs.State.{FollowedAt, IsNode, NodeState, Agrees, AgreesWithin, IsShut, MasterAgrees, ReplicaAgrees, course_of, end_of}
+use Rattle.mr_node_spec.specs.Ends.{Leaves, Settles}
+use Rattle.mr_node_spec.specs.Requests.{Waits}
+use Rattle.mr_node_spec.specs.ClientRows.{ClientRow, serves, closes, halts, synchronizes, promotes, turns, demotes, begins}
+use Rattle.mr_node_spec.specs.Transactions.{WithinRow}
+use Rattle.mr_node_spec.specs.ReplicaRows.{ReplicaRow, notes, parts}
+use Rattle.mr_node_spec.specs.UpstreamRows as master
 use Rattle.mr_node.specs.Calls.{Agreeing}
 use Rattle.mr_node.specs.Calls.Agreeing.{client as of_client, waiting as of_waiting, replica as of_replica, master as of_master, shut as of_shut}
 use Rattle.mr_node.specs.Steps.{Steps}
@@ -43,11 +43,11 @@ leaves_others a b l e h q = others_stay h.others h.follow q
 followed_none : (b : NodeState) (x : LinkId) → b.follow ≡ None → (f : FollowState) → b.follow ≡ Some (x, f) → ⊥
 followed_none b x none f e = none_some (x, f) (sym none ∙ e)
 
--- an end that is one of the closed, the one that is gone, or as it was
-settled_still : (a b : NodeState) (l : LinkId) (e : EndState) (closed : List LinkId) (gone : Option LinkId) → Settles a l b e closed gone → b.follow ≡ None → (x : LinkId) → x ≢ l → IsStill a x → IsStill b x
-settled_still a b l e closed gone h none x ne s = elim (is_named closed x) as (λ v. is_named closed x ≡ v → IsStill b x) [
+-- an end that is one of the closed, or as it was
+settled_still : (a b : NodeState) (l : LinkId) (e : EndState) (closed : List LinkId) → Settles a l b e closed → b.follow ≡ None → (x : LinkId) → x ≢ l → IsStill a x → IsStill b x
+settled_still a b l e closed h none x ne s = elim (is_named closed x) as (λ v. is_named closed x ≡ v → IsStill b x) [
   | true ↦ λ named. still_shut b x (h.shuts x named) (followed_none b x none)
-  | false ↦ λ other. rest gone other refl
+  | false ↦ λ other. ends_only (h.others x ne other)
 ] refl where
   ends_only : end_of b x ≡ end_of a x → IsStill b x
   ends_only same = record {
@@ -57,23 +57,17 @@ settled_still a b l e closed gone h none x ne s = elim (is_named closed x) as (�
     at_master = λ f e. absurd (followed_none b x none f e);
   }
 
-  rest : (g : Option LinkId) → is_named closed x ≡ false → gone ≡ g → IsStill b x
-  rest None other is = ends_only (h.others x ne other (λ e. none_some x (sym is ∙ e)))
-  rest (Some n) other is = by_name (IsStill b x) n x
-      (λ one. still_none b x (h.none x (is ∙ ap (λ (z : LinkId). Some z) one)) (followed_none b x none))
-      (λ apart. ends_only (h.others x ne other (λ e. apart (some_is n x (sym is ∙ e)))))
-
-settled_others : (a b : NodeState) (l : LinkId) (e : EndState) (closed : List LinkId) (gone : Option LinkId) → Settles a l b e closed gone → b.follow ≡ None → OthersWait a l → OthersWait b l
-settled_others a b l e closed gone h none q = record { each = λ x ne. settled_still a b l e closed gone h none x ne (q.each x ne) }
+settled_others : (a b : NodeState) (l : LinkId) (e : EndState) (closed : List LinkId) → Settles a l b e closed → b.follow ≡ None → OthersWait a l → OthersWait b l
+settled_others a b l e closed h none q = record { each = λ x ne. settled_still a b l e closed h none x ne (q.each x ne) }
 
 client_others : (a b : NodeState) (l : LinkId) (u : List ℕ) (given : Given) (fresh : List ℕ) (outs : OutsState) → ClientRow a l u given fresh b outs → OthersWait a l → OthersWait b l
 client_others a b l u given fresh outs (serves s) q = leaves_others a b l _ s.leaves q
 client_others a b l u given fresh outs (closes s) q = others_stay s.others s.follow q
 client_others a b l u given fresh outs (halts s) q = leaves_others a b l _ s.leaves q
 client_others a b l u given fresh outs (synchronizes s) q = leaves_others a b l _ s.leaves q
-client_others a b l u given fresh outs (promotes s) q = settled_others a b l _ _ _ s.ends s.follow q
-client_others a b l u given fresh outs (turns s) q = settled_others a b l _ _ _ s.ends s.follow q
-client_others a b l u given fresh outs (demotes s) q = settled_others a b l _ _ _ s.ends s.follow q
+client_others a b l u given fresh outs (promotes s) q = settled_others a b l _ _ s.ends s.follow q
+client_others a b l u given fresh outs (turns s) q = settled_others a b l _ _ s.ends s.follow q
+client_others a b l u given fresh outs (demotes s) q = settled_others a b l _ _ s.ends s.follow q
 client_others a b l u given fresh outs (begins s) q = leaves_others a b l _ s.leaves q
 
 -- .. where a transaction is open
@@ -104,8 +98,8 @@ reads_at c m l f u g outcome.Applied d n told row x h e = ap (λ (z : LinkId × 
 reads_at c m l f u g outcome.Left d n told row x h e = absurd (none_some (x, h) (sym (ap (λ (z : CourseState). z.follow) row.is) ∙ e))
 reads_at c m l f u g outcome.Spoiled d n told row x h e = absurd (none_some (x, h) (sym (ap (λ (z : CourseState). z.follow) row.is) ∙ e))
 
-pub gone_end : (l x : LinkId) (ends : Links EndState) → x ≢ l → get (remove ends.open_links l) x ≡ get ends.open_links x
-gone_end l x ends ne = get-remove ids_total ends.open_links l x ∙ elim (eq_by_cmp id_cmp x l) as (λ v. eq_by_cmp id_cmp x l ≡ v → cond v None (get ends.open_links x) ≡ get ends.open_links x) [ true ↦ λ h. absurd (ne (is_one x l h)) | false ↦ λ h. refl ] refl
+shut_end : (l x : LinkId) (ends : Links EndState) → x ≢ l → get (insert ends.open_links l shut) x ≡ get ends.open_links x
+shut_end l x ends ne = get-insert ids_total ends.open_links l shut x ∙ elim (eq_by_cmp id_cmp x l) as (λ v. eq_by_cmp id_cmp x l ≡ v → cond v (Some shut) (get ends.open_links x) ≡ get ends.open_links x) [ true ↦ λ h. absurd (ne (is_one x l h)) | false ↦ λ h. refl ] refl
 
 -- the ends of the other links stay
 behind_end : (came : UpstreamStep) (l x : LinkId) (ends : Links EndState) → x ≢ l → get (master.ends_behind came l ends).open_links x ≡ get ends.open_links x
@@ -115,8 +109,8 @@ behind_end outcome.Announced l x ends ne = refl
 behind_end outcome.Continued l x ends ne = refl
 behind_end outcome.Loaded l x ends ne = refl
 behind_end outcome.Applied l x ends ne = refl
-behind_end outcome.Left l x ends ne = gone_end l x ends ne
-behind_end outcome.Spoiled l x ends ne = gone_end l x ends ne
+behind_end outcome.Left l x ends ne = shut_end l x ends ne
+behind_end outcome.Spoiled l x ends ne = shut_end l x ends ne
 
 -- the row at bytes that can be unread there
 pub record Heard (a : NodeState) (l : LinkId) (u : List ℕ) (came : UpstreamStep) (b : NodeState) : Type 0 where

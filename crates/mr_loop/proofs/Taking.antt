@@ -2,17 +2,17 @@
 use Rattle.std.proofs.Common.{◌≡◌, ◌⊎◌, inl, inr, ℕ, ℤ, List, true, Option, None, Some, Result, Ok, refl, ap, ◌∙◌}
 use Rattle.mr_links.specs.declared.link_id.LinkId.{LinkId}
 use Rattle.mr_data.specs.declared.given.Given.{Given}
-use Rattle.mr_course.specs.State.{name_of}
-use Rattle.mr_course.specs.declared.upstream.UpstreamStep.{UpstreamStep}
-use Rattle.mr_course.specs.declared.upstream.UpstreamStep.TheVariants as up
-use Rattle.mr_ends.specs.State.{Transaction}
-use Rattle.mr_outs.specs.Outs.{OutsState}
-use Rattle.mr_rows.specs.State.{NodeState}
-use Rattle.mr_rows.specs.ClientRows.{ClientRow}
-use Rattle.mr_rows.specs.Transactions.{WithinRow}
-use Rattle.mr_rows.specs.ReplicaRows.{ReplicaRow}
-use Rattle.mr_rows.specs.UpstreamRows as upstream
-use Rattle.mr_rows.specs.TimeRows.{Rests, TickRow, deletes, rests}
+use Rattle.mr_replication.specs.State.{name_of}
+use Rattle.mr_replication.specs.declared.upstream.UpstreamStep.{UpstreamStep}
+use Rattle.mr_replication.specs.declared.upstream.UpstreamStep.TheVariants as up
+use Rattle.mr_node_links.specs.State.{Transaction}
+use Rattle.mr_node_output.specs.Outs.{OutsState}
+use Rattle.mr_node_spec.specs.State.{NodeState}
+use Rattle.mr_node_spec.specs.ClientRows.{ClientRow}
+use Rattle.mr_node_spec.specs.Transactions.{WithinRow}
+use Rattle.mr_node_spec.specs.ReplicaRows.{ReplicaRow}
+use Rattle.mr_node_spec.specs.UpstreamRows as upstream
+use Rattle.mr_node_spec.specs.TimeRows.{Rests, TickRow, deletes, rests}
 use Rattle.mr_node.specs.Calls.{Agreeing}
 use Rattle.mr_node.specs.Calls.Agreeing.{client, waiting, replica, master, shut}
 use Rattle.mr_node.specs.Steps.{Steps}

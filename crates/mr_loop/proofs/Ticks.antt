@@ -1,25 +1,25 @@
 -- How time passes in a turn: ticks one after another, and what one that deletes nothing leaves due.
-use Rattle.std.proofs.Common.{◌≡◌, ◌<◌, ◌≤ℤ◌, ◌+◌, ◌-◌, ◌++◌, ◌&&◌, nat_le, ℕ, ℤ, List, [], ◌∷◌, Bool, true, false, length, flat_map, Option, None, Some, Result, Err, if◌then◌else◌, arith, refl, sym, ap, subst, ◌∙◌}
+use Rattle.std.proofs.Common.{◌≡◌, ◌<◌, ◌≤ℤ◌, ◌⊎◌, inl, inr, ◌+◌, ◌-◌, ◌++◌, ◌&&◌, nat_le, ℕ, ℤ, List, [], ◌∷◌, Bool, true, false, length, flat_map, Option, None, Some, Result, Err, if◌then◌else◌, arith, refl, sym, ap, subst, ◌∙◌}
 use Rattle.std.specs.Option.{option_and_then}
 use Rattle.mr_resp.specs.Spelling.{bulk, number_line}
 use Rattle.mr_effect.specs.Effects.{has_spelling, words_fit}
 use Rattle.mr_effect.specs.Spelling.{size, texts, words}
 use Rattle.mr_effect.specs.declared.effect.Effect.{Effect}
 use Rattle.mr_effect.specs.declared.effect.Effect.TheVariants as effect
-use Rattle.mr_entries.specs.Changes.{change}
-use Rattle.mr_entries.specs.Dataset.{Dataset}
+use Rattle.mr_keyspace.specs.Changes.{change}
+use Rattle.mr_keyspace.specs.Dataset.{Dataset}
 use Rattle.mr_data.specs.Due.{deletions, due, within}
 use Rattle.mr_data.specs.Meaning.{apply, apply_all}
 use Rattle.mr_data.specs.declared.given.Given.{Given}
 use Rattle.mr_source.specs.Drawn.{DrawnState, with_moment}
 use Rattle.mr_repl.specs.Backlog.{offset_limit}
 use Rattle.mr_file.specs.declared.sync_mode.SyncMode.{SyncMode}
-use Rattle.mr_outs.specs.Outs.{OutsState, outs_of}
-use Rattle.mr_rows.specs.Sound.{IsSound}
-use Rattle.mr_rows.specs.Growing.{grown_by}
-use Rattle.mr_rows.specs.State.{Core, NodeState}
-use Rattle.mr_rows.specs.TimeRows.{Beats, Deletes, TickRow, deletes, doomed, rests, room_in}
-use Rattle.mr_rows.specs.TimeRows.Beats.{alone, beats, cut, marks, waits}
+use Rattle.mr_node_output.specs.Outs.{OutsState, outs_of}
+use Rattle.mr_node_spec.specs.Sound.{IsSound}
+use Rattle.mr_node_spec.specs.Growing.{grown_by}
+use Rattle.mr_node_spec.specs.State.{Core, NodeState}
+use Rattle.mr_node_spec.specs.TimeRows.{Beats, Deletes, TickRow, deletes, doomed, rests, room_in}
+use Rattle.mr_node_spec.specs.TimeRows.Beats.{alone, beats, cut, marks, waits}
 use Rattle.mr_node.specs.Calls.{TickStep}
 use Rattle.mr_node.specs.declared.fault.NodeFault.{NodeFault}
 use Rattle.mr_node.specs.declared.fault.NodeFault.TheVariants as refusal
@@ -29,7 +29,7 @@ use Rattle.mr_loop.specs.declared.host.Host.{Host}
 use Rattle.mr_loop.specs.Stage.{Stage}
 use Rattle.mr_loop.specs.Carrying.{Carried}
 use Rattle.mr_loop.specs.Causes.{at_tick}
-use Rattle.mr_loop.specs.Counting.{IsTickDue, MomentState, Passes, Renewed, most_ticks, one_where, raised, ticks_by}
+use Rattle.mr_loop.specs.Counting.{IsTickDue, MomentState, Passes, Renewed, misses_by, most_ticks, one_where, raised, ticks_by}
 use Rattle.mr_loop.specs.Going.{PassesAs, PassesOn}
 use Rattle.mr_loop.specs.Hosts.{moment_in, stage_in}
 use Rattle.mr_loop.specs.Outcomes.{HasBroken}
@@ -133,7 +133,7 @@ missed_same a b now refusal.InputFull other row = absurd row
 
 pub ticks_once : {tells : Bool} {mode : SyncMode} (s t : Stage) (n : NodeState) (given : Given) (outs : OutsState) (old mid new : MomentState) → TickRow s.node given.now n outs → IsSound n → Carried (outs_of outs) (record s { node = n }) t
     → old.drawn.clock ≤ℤ given.now → mid ≡ record old { drawn = with_moment given.now old.drawn } → Renewed outs.used mid new
-    → Passes tells mode 1 old new s t
+    → Passes tells mode 1 0 old new s t
 ticks_once s t n given outs old mid new row sound carried forward one took =
     let none = tick_takes s.node n given.now outs row in
     let same : new ≡ record old { drawn = with_moment given.now old.drawn } = renewed_none outs.used mid new none took ∙ one in record {
@@ -146,10 +146,11 @@ ticks_once s t n given outs old mid new row sound carried forward one took =
           (ap (λ (m : MomentState). m.turn.followed) same);
       done = ap (λ (m : MomentState). m.turn.done) same;
       ticked = omega arith;
+      missed_are = omega arith;
     }
 
 -- one for which memory ran out
-pub misses_once : {tells : Bool} {mode : SyncMode} (s t : Stage) (given : Given) (old new : MomentState) → old.drawn.clock ≤ℤ given.now → new ≡ record old { drawn = with_moment given.now old.drawn } → MissesTick s t → Passes tells mode 1 old new s t
+pub misses_once : {tells : Bool} {mode : SyncMode} (s t : Stage) (given : Given) (old new : MomentState) → old.drawn.clock ≤ℤ given.now → new ≡ record old { drawn = with_moment given.now old.drawn } → MissesTick s t → Passes tells mode 1 1 old new s t
 misses_once s t given old new forward same misses = record {
   counts = counts_event (misses_tick given) old new refl misses
       (gives_none (misses_tick given) old new refl (ap (λ (m : MomentState). m.fresh) same) (tells_one forward (ap (λ (m : MomentState). m.drawn) same)))
@@ -160,31 +161,33 @@ misses_once s t given old new forward same misses = record {
       (ap (λ (m : MomentState). m.turn.followed) same);
   done = ap (λ (m : MomentState). m.turn.done) same;
   ticked = omega arith;
+  missed_are = omega arith;
 }
 
 -- in the mode of the turn's log
-pub passes_moded : {tells : Bool} {count : ℕ} {old new : MomentState} {s t : Stage} (m n : SyncMode) → m ≡ n → Passes tells m count old new s t → Passes tells n count old new s t
-passes_moded {tells} {count} {old} {new} {s} {t} m n mode p = subst (λ k. Passes tells k count old new s t) mode p
+pub passes_moded : {tells : Bool} {count missed : ℕ} {old new : MomentState} {s t : Stage} (m n : SyncMode) → m ≡ n → Passes tells m count missed old new s t → Passes tells n count missed old new s t
+passes_moded {tells} {count} {missed} {old} {new} {s} {t} m n mode p = subst (λ k. Passes tells k count missed old new s t) mode p
 
 -- ---- ticks so far, with so many that are left
 
-passes_on : {tells : Bool} {mode : SyncMode} {m n : ℕ} {old mid new : MomentState} {a b c : Stage} → Passes tells mode m old mid a b → Passes tells mode n mid new b c → Passes tells mode (m + n) old new a c
+passes_on : {tells : Bool} {mode : SyncMode} {m n k l : ℕ} {old mid new : MomentState} {a b c : Stage} → Passes tells mode m k old mid a b → Passes tells mode n l mid new b c → Passes tells mode (m + n) (k + l) old new a c
 passes_on x y = record {
   counts = counts_on x.counts y.counts;
   done = y.done ∙ x.done;
   ticked = sum_append ticks_by x.counts.went.events y.counts.went.events ∙ omega (arith, x.ticked, y.ticked);
+  missed_are = sum_append misses_by x.counts.went.events y.counts.went.events ∙ omega (arith, x.missed_are, y.missed_are);
 }
 
 pub record PassesSoFar (tells : Bool) (mode : SyncMode) (most left : ℕ) (old new : MomentState) (s t : Stage) : Type 0 where
   pub count : ℕ
-  pub went : Passes tells mode count old new s t
+  pub went : Passes tells mode count 0 old new s t
   pub all : count + left ≡ most
 
 pub none_passed : {tells : Bool} {mode : SyncMode} (most left : ℕ) (moment : MomentState) (s : Stage) → left ≡ most → PassesSoFar tells mode most left moment moment s s
-none_passed most left moment s e = record { count = 0; went = record { counts = counts_none moment s; done = refl; ticked = refl }; all = omega (arith, e) }
+none_passed most left moment s e = record { count = 0; went = record { counts = counts_none moment s; done = refl; ticked = refl; missed_are = refl }; all = omega (arith, e) }
 
 -- .. and one more
-pub one_passed : {tells : Bool} {mode : SyncMode} {most : ℕ} (left less : ℕ) {old mid new : MomentState} {a b c : Stage} → left ≡ less + 1 → PassesSoFar tells mode most left old mid a b → Passes tells mode 1 mid new b c → PassesSoFar tells mode most less old new a c
+pub one_passed : {tells : Bool} {mode : SyncMode} {most : ℕ} (left less : ℕ) {old mid new : MomentState} {a b c : Stage} → left ≡ less + 1 → PassesSoFar tells mode most left old mid a b → Passes tells mode 1 0 mid new b c → PassesSoFar tells mode most less old new a c
 one_passed left less one so next = record { count = so.count + 1; went = passes_on so.went next; all = omega (arith, so.all, one) }
 
 some_ticks : (n : ℕ) → 0 < most_ticks n
@@ -197,19 +200,35 @@ module _ {W F S : Type 0} (tells : Bool) (links : W → WireState) (failures : W
   -- none is left
   pub all_passed : (a b : Host W F S) (left done : ℕ) → left ≡ 0
       → PassesSoFar tells a.log.now.mode (most_ticks done) left (moment_in drawn a) (moment_in drawn b) (stage_in links failures told synced a) (stage_in links failures told synced b) → PassesOn tells links failures told synced drawn true (most_ticks done) a b
-  all_passed a b left done e so = record { count = so.count; went = so.went; some = omega (arith, e, some_ticks done, so.all); few = omega (arith, so.all); keeps_up = λ due. (omega (arith, e, so.all), refl) }
+  all_passed a b left done e so = record {
+    count = so.count;
+    missed = 0;
+    went = so.went;
+    some = omega (arith, e, some_ticks done, so.all);
+    few = omega (arith, so.all);
+    keeps_up = λ due. inl (omega (arith, e, so.all), refl);
+    goes_on = λ more. (omega (arith, e, so.all), refl);
+  }
 
   -- .. or nothing more is due
-  pub enough_passed : (a b : Host W F S) (left less most : ℕ) (mid : MomentState) (s : Stage) (more : Bool) → left ≡ less + 1
-      → PassesSoFar tells a.log.now.mode most left (moment_in drawn a) mid (stage_in links failures told synced a) s → Passes tells a.log.now.mode 1 mid (moment_in drawn b) s (stage_in links failures told synced b)
-      → (IsTickDue (drawn b.source.now).clock b.node.now → more ≡ true) → more ≡ false → PassesOn tells links failures told synced drawn false most a b
-  enough_passed a b left less most mid s more one so next keeps ends = record {
-    count = so.count + 1;
-    went = passes_on so.went next;
-    some = omega arith;
-    few = omega (arith, so.all, one);
-    keeps_up = λ due. absurd (true_false more (keeps due) ends);
-  }
+  pub enough_passed : (a b : Host W F S) (left less most missed : ℕ) (mid : MomentState) (s : Stage) (more : Bool) → left ≡ less + 1
+      → PassesSoFar tells a.log.now.mode most left (moment_in drawn a) mid (stage_in links failures told synced a) s → Passes tells a.log.now.mode 1 missed mid (moment_in drawn b) s (stage_in links failures told synced b)
+      → (IsTickDue (drawn b.source.now).clock b.node.now → (more ≡ true) ⊎ (0 < missed)) → more ≡ false → PassesOn tells links failures told synced drawn false most a b
+  enough_passed a b left less most missed mid s more one so next keeps ends = by where
+    missed_one : (more ≡ true) ⊎ (0 < missed) → 0 < 0 + missed
+    missed_one (inl is) = absurd (true_false more is ends)
+    missed_one (inr some) = omega (arith, some)
+
+    by : PassesOn tells links failures told synced drawn false most a b
+    by = record {
+      count = so.count + 1;
+      missed = 0 + missed;
+      went = passes_on so.went next;
+      some = omega arith;
+      few = omega (arith, so.all, one);
+      keeps_up = λ due. inr (missed_one (keeps due));
+      goes_on = λ e. absurd (true_false false e refl);
+    }
 
   -- .. or a fault came
   pub breaks_passing : (a b : Host W F S) (left most : ℕ) (mid : MomentState) (s : Stage) (m : SyncMode) (r : Result Bool LoopFault) (why : LoopFault) → r ≡ Err why → m ≡ a.log.now.mode

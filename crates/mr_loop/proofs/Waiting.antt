@@ -8,15 +8,15 @@ use Rattle.mr_links.specs.LinkId.{id_cmp}
 use Rattle.mr_links.specs.Links.{Links}
 use Rattle.mr_links.specs.declared.link_id.LinkId.{LinkId}
 use Rattle.mr_links.proofs.LinkRows.{ids_total, exact_ids}
-use Rattle.mr_course.specs.State.{name_of}
-use Rattle.mr_ends.specs.State.{EndState, Transaction}
-use Rattle.mr_ends.specs.State.EndState.{client, waiting, replica, shut, upstream}
-use Rattle.mr_follow.specs.State.{FollowState}
-use Rattle.mr_outs.specs.Outs.{OutState, OutsState}
-use Rattle.mr_rows.specs.State.{NodeState, OthersStay, end_of}
-use Rattle.mr_rows.specs.LinkRows.{Opens, Dials, Feeds, closed_at, follow_without}
-use Rattle.mr_rows.specs.Requests.{Waits}
-use Rattle.mr_rows.specs.TimeRows.{TickRow, deletes, rests}
+use Rattle.mr_replication.specs.State.{name_of}
+use Rattle.mr_node_links.specs.State.{EndState, Transaction}
+use Rattle.mr_node_links.specs.State.EndState.{client, waiting, replica, shut, upstream}
+use Rattle.mr_follower.specs.State.{FollowState}
+use Rattle.mr_node_output.specs.Outs.{OutState, OutsState}
+use Rattle.mr_node_spec.specs.State.{NodeState, OthersStay, end_of}
+use Rattle.mr_node_spec.specs.LinkRows.{Opens, Dials, Feeds, closed_at, follow_without}
+use Rattle.mr_node_spec.specs.Requests.{Waits}
+use Rattle.mr_node_spec.specs.TimeRows.{TickRow, deletes, rests}
 use Rattle.mr_loop.specs.Stage.{Stage}
 use Rattle.mr_loop.specs.Carrying.{Carried}
 use Rattle.mr_loop.specs.Causes.{Fed, TurnsOff, dials_and_closes, ended_at, opens_and_closes, stays}

@@ -7,17 +7,19 @@ use Rattle.mr_links.specs.LinkId.{id_cmp}
 use Rattle.mr_links.specs.declared.link_id.LinkId.{LinkId}
 use Rattle.mr_links.proofs.LinkRows.{ids_total}
 use Rattle.mr_file.specs.declared.sync_mode.SyncMode.{SyncMode}
-use Rattle.mr_outs.specs.Outs.{OutState, OutsState, grow, append, replace, send, close, use_id, follow, halt, outs_of}
+use Rattle.mr_node_output.specs.Outs.{OutState, OutsState, grow, append, replace, send, close, use_id, follow, halt, outs_of}
 use Rattle.mr_wire.specs.Wire.{LinkState, Opens, WireState, asked_link, behind_read, behind_write, count_of, new_link, sent_by, sent_on}
 use Rattle.mr_wire.specs.declared.wire.Moved.{Moved}
 use Rattle.mr_wire.specs.declared.wire.Moved.TheVariants as answered
 use Rattle.mr_connections.specs.State.{ConnectionState, Rows, begun, changed, left, pushed, where_linked, with_each, wrote}
 use Rattle.mr_connections.proofs.Changed.{get-changed}
 use Rattle.mr_connections.proofs.Each.{get-with_each}
-use Rattle.mr_loop.specs.Stage.{Stage, LoopState, connection_at, lacking}
+use Rattle.mr_loop.specs.declared.lacking.Asked.TheVariants as asked
+use Rattle.mr_loop.specs.Lacking.{told_with}
+use Rattle.mr_loop.specs.Stage.{Stage, LoopState, connection_at, losing}
 use Rattle.mr_loop.specs.Carrying.{Carries}
 use Rattle.mr_loop.specs.Causes.{Act, Calls, Dropped, Touches, at_dial, at_step, at_tick}
-use Rattle.mr_loop.specs.Rows.{Event, fault_of, Happens, Run, acts, appends, breaks, closes, fails, finds_none, hears_end, idles, is_deaf, is_refused, joins, loses, misses, misses_dial, misses_tick, settles, spills, stops, takes, tears, turns_away, waits, wakes, writes}
+use Rattle.mr_loop.specs.Rows.{Event, fault_of, Happens, Run, acts, appends, behind_refusal, breaks, closes, fails, finds_none, hears_end, idles, is_deaf, is_refused, joins, loses, misses, misses_dial, misses_tick, settles, spills, stops, takes, tears, turns_away, waits, wakes, writes}
 use Rattle.mr_loop.specs.Sent.{drops, moved_by, moved_in, moved_of, moved_on, told_by, told_in, StaysIn, HaveSockets, HaveSocketsFirst, HaveSocketsAlways, SendsNothingElse, WireHasWhatIsSent}
 use Rattle.mr_loop.proofs.Carried.{carried_by, carried_wire}
 use Rattle.mr_loop.proofs.Halting.{no_fault}
@@ -142,8 +144,8 @@ module _ (tells : Bool) (mode : SyncMode) where
   sockets_kept (finds_none j) s t held goes_on h = socketed s t held (by_own h.own) (touched_open s.wire t.wire j (behind_read tells h.answer h.buffer) [] h.wire)
   sockets_kept (hears_end j x) s t held goes_on h = socketed s t held (were_each (where_linked x left) s.own.connections t.own.connections (ap (λ (z : LoopState). z.connections) h.own)) (touched_open s.wire t.wire j (behind_read tells answered.End h.buffer) [] h.wire)
   sockets_kept (loses j) s t held goes_on h = touched_dropped s t j (Some h.link) (behind_read tells answered.Failed h.buffer) [] h.wire h.failed held h.touched h.dropped
-  sockets_kept (misses j) s t held goes_on h = touched_dropped (record s { own = lacking s.own }) t j (Some h.link) (behind_read tells (answered.Bytes h.count) h.buffer) [] h.wire h.failed (record { each = held.each }) h.touched h.dropped
-  sockets_kept (is_refused j l given fresh) s t held goes_on h = dropped_both (record s { node = h.node; own = lacking s.own }) t j (Some l) (socketed s (record s { node = h.node; own = lacking s.own }) held (were_same refl) (same_open refl)) h.dropped
+  sockets_kept (misses j) s t held goes_on h = touched_dropped (record s { own = losing (asked.Bytes (told_with h.unread h.count)) s.own }) t j (Some h.link) (behind_read tells (answered.Bytes h.count) h.buffer) [] h.wire h.failed (record { each = held.each }) h.touched h.dropped
+  sockets_kept (is_refused j l given fresh) s t held goes_on h = dropped_both (behind_refusal s l h.node h.unread) t j (Some l) (socketed s (behind_refusal s l h.node h.unread) held (were_same refl) (same_open refl)) h.dropped
   sockets_kept (is_deaf j l) s t held goes_on h = dropped_both s t j (Some l) held h.dropped
   sockets_kept (idles j l given fresh) s t held goes_on h = by_stage held (ap (λ (z : Stage). z.own) h.same) (ap (λ (z : Stage). z.wire) h.same)
   sockets_kept (acts act outs) s t held goes_on h = carried_by HaveSockets carries_sockets (outs_of outs) h.called t h.carried (called_sockets act s h.called outs h.calls held)
@@ -237,8 +239,8 @@ module _ (mode : SyncMode) where
   moved_kept (finds_none j) s t k c held here goes_on stays h = quiet s.wire t.wire (finds_none j) k refl (not_moved s.wire t.wire j k (behind_read true h.answer h.buffer) (λ e. refl) h.wire)
   moved_kept (hears_end j x) s t k c held here goes_on stays h = quiet s.wire t.wire (hears_end j x) k refl (not_moved s.wire t.wire j k (behind_read true answered.End h.buffer) (λ e. refl) h.wire)
   moved_kept (loses j) s t k c held here goes_on stays h = touched_elsewhere s t (loses j) j k (Some h.link) (behind_read true answered.Failed h.buffer) [] h.wire h.failed refl stays h.touched h.dropped
-  moved_kept (misses j) s t k c held here goes_on stays h = touched_elsewhere (record s { own = lacking s.own }) t (misses j) j k (Some h.link) (behind_read true (answered.Bytes h.count) h.buffer) [] h.wire h.failed refl stays h.touched h.dropped
-  moved_kept (is_refused j l given fresh) s t k c held here goes_on stays h = dropped_elsewhere (record s { node = h.node; own = lacking s.own }) t (is_refused j l given fresh) j k (Some l) refl stays h.dropped
+  moved_kept (misses j) s t k c held here goes_on stays h = touched_elsewhere (record s { own = losing (asked.Bytes (told_with h.unread h.count)) s.own }) t (misses j) j k (Some h.link) (behind_read true (answered.Bytes h.count) h.buffer) [] h.wire h.failed refl stays h.touched h.dropped
+  moved_kept (is_refused j l given fresh) s t k c held here goes_on stays h = dropped_elsewhere (behind_refusal s l h.node h.unread) t (is_refused j l given fresh) j k (Some l) refl stays h.dropped
   moved_kept (is_deaf j l) s t k c held here goes_on stays h = dropped_elsewhere s t (is_deaf j l) j k (Some l) refl stays h.dropped
   moved_kept (idles j l given fresh) s t k c held here goes_on stays h = unmoved (idles j l given fresh) k refl (ap (λ (z : Stage). z.wire) h.same)
   moved_kept (acts act outs) s t k c held here goes_on stays h = quiet s.wire t.wire (acts act outs) k refl (ap (λ (z : WireState). moved_on z k) (carried_wire (outs_of outs) h.called t h.carried) ∙ called_moved act s h.called outs k c held here h.calls)

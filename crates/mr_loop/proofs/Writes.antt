@@ -6,7 +6,7 @@ use Rattle.std.specs.FinMap.{get}
 use Rattle.mr_links.specs.declared.link_id.LinkId.{LinkId}
 use Rattle.mr_file.specs.LogFile.{Rose}
 use Rattle.mr_file.specs.declared.sync_mode.SyncMode.{SyncMode}
-use Rattle.mr_rows.specs.State.{NodeState}
+use Rattle.mr_node_spec.specs.State.{NodeState}
 use Rattle.mr_source.specs.Drawn.{DrawnState}
 use Rattle.mr_wire.specs.Wire.{LinkState, ChangesLink, WireState, behind_write, count_of, moves_none, sent_by}
 use Rattle.mr_wire.specs.declared.wire.Moved.{Moved}

@@ -1,8 +1,8 @@
 -- What becomes of the outs of a call on the node, as they are carried out one after another.
 use Rattle.std.specs.Prelude.{◌≡◌, ℕ, List, [], ◌∷◌, ◌++◌, Result, Ok, Err}
 use Rattle.mr_file.specs.LogFile.{Replaces, IsOldOrNew, IsSynced}
-use Rattle.mr_outs.specs.Outs.{OutState, grow, append, replace, send, close, use_id, follow, halt}
-use Rattle.mr_rows.specs.LinkRows.{closed_at}
+use Rattle.mr_node_output.specs.Outs.{OutState, grow, append, replace, send, close, use_id, follow, halt}
+use Rattle.mr_node_spec.specs.LinkRows.{closed_at}
 use Rattle.mr_connections.specs.State.{sent, parted}
 use Rattle.mr_loop.specs.declared.fault.LoopFault.{LoopFault}
 use Rattle.mr_loop.specs.declared.fault.LoopFault.TheVariants as fault

@@ -3,12 +3,12 @@ use Rattle.std.specs.Prelude.{◌≡◌, ◌≢◌, ◌<◌, ◌≤◌, ℕ, Lis
 use Rattle.std.specs.FinMap as map
 use Rattle.mr_links.specs.declared.link_id.LinkId.{LinkId}
 use Rattle.mr_data.specs.declared.given.Given.{Given}
-use Rattle.mr_outs.specs.Outs.{OutsState}
-use Rattle.mr_outs.specs.Address.{AddressState}
-use Rattle.mr_rows.specs.State.{IsNode, NodeState, end_of, room_of}
-use Rattle.mr_rows.specs.LinkRows.{Opens, Dials, Feeds, closed_at}
-use Rattle.mr_rows.specs.Sound.{IsSound}
-use Rattle.mr_rows.specs.TimeRows.{TickRow}
+use Rattle.mr_node_output.specs.Outs.{OutsState}
+use Rattle.mr_node_output.specs.Address.{AddressState}
+use Rattle.mr_node_spec.specs.State.{IsNode, NodeState, end_of, room_of}
+use Rattle.mr_node_spec.specs.LinkRows.{Opens, Dials, Feeds, closed_at}
+use Rattle.mr_node_spec.specs.Sound.{IsSound}
+use Rattle.mr_node_spec.specs.TimeRows.{TickRow}
 use Rattle.mr_node.specs.Calls.{IsClients, OpensNoMore, Unreads}
 use Rattle.mr_node.specs.Parts.{role_of}
 use Rattle.mr_node.specs.Steps.{Steps}
@@ -42,12 +42,12 @@ pub record IsBurdened (a : NodeState) (o : LoopState) (socket link : LinkId) : T
   pub is : connection_at o socket ≡ Some connection
   pub too_much : most_unsent < length connection.waiting
 
--- A connection is there with this link, and more may be read of it.
-pub record IsRead (o : LoopState) (socket link : LinkId) : Type 0 where
+-- A connection is there with this link, and more may be read of it: of a client only where at most so much waits for it.
+pub record IsRead (a : NodeState) (o : LoopState) (socket link : LinkId) : Type 0 where
   pub connection : ConnectionState
   pub is : connection_at o socket ≡ Some connection
   pub linked : connection.link ≡ Some link
-  pub few : length connection.waiting ≤ most_kept
+  pub few : IsClients a link → length connection.waiting ≤ most_kept
 
 -- ---- the node
 

@@ -1,18 +1,22 @@
 -- How often a turn asks the node for a step, how often that uses something, how many fresh ids it takes, how many clients it gives up as deaf, what comes of
 -- following a master, how often time passes in it, and whether it ends the program; and that what its calls are given is the source's.
-use Rattle.std.specs.Prelude.{◌≡◌, ◌≢◌, ◌<◌, ◌≤◌, ℕ, ℤ, ◌+◌, ◌-◌, ◌/◌, ◌^◌, zero, suc, min, List, [], ◌∷◌, Bool, true, false, ◌||◌, Option, Some, None}
+use Rattle.std.specs.Prelude.{◌≡◌, ◌≢◌, ◌<◌, ◌≤◌, ◌⊎◌, ℕ, ℤ, ◌+◌, ◌-◌, ◌/◌, ◌^◌, zero, suc, min, List, [], ◌∷◌, Bool, true, false, ◌||◌, if◌then◌else◌, Option, Some, None}
+use Rattle.std.specs.Ordering.{eq_by_cmp}
+use Rattle.mr_links.specs.LinkId.{id_cmp}
+use Rattle.mr_links.specs.declared.link_id.LinkId.{LinkId}
 use Rattle.mr_file.specs.declared.sync_mode.SyncMode.{SyncMode}
-use Rattle.mr_rows.specs.State.{NodeState}
-use Rattle.mr_rows.specs.TimeRows.{room_in}
+use Rattle.mr_node_spec.specs.State.{NodeState}
+use Rattle.mr_node_spec.specs.TimeRows.{room_in}
 use Rattle.mr_data.specs.Due.{deletions}
 use Rattle.mr_source.specs.Drawn.{DrawnState, with_id}
 use Rattle.mr_loop.specs.declared.told.Turn.{Turn}
 use Rattle.mr_loop.specs.declared.followed.Followed.{Followed}
 use Rattle.mr_loop.specs.declared.followed.News.{News}
 use Rattle.mr_loop.specs.declared.followed.News.TheVariants as came
+use Rattle.mr_loop.specs.Lacking.{lacked_since, no_lack}
 use Rattle.mr_loop.specs.Stage.{Stage}
 use Rattle.mr_loop.specs.Causes.{Act, at_step, at_tick, at_dial}
-use Rattle.mr_loop.specs.Rows.{Event, Run, Went, acts, idles, is_deaf, is_refused, misses_tick, spills, tears}
+use Rattle.mr_loop.specs.Rows.{Event, Run, Went, acts, idles, is_deaf, is_refused, joins, misses_tick, spills, takes, tears, turns_away}
 use Rattle.mr_loop.specs.Giving.{Supplies}
 
 abbrev pub steps_in_act : Act → ℕ
@@ -73,6 +77,22 @@ ticks_by (spills act outs) = ticks_in_act act
 ticks_by (tears act outs) = ticks_in_act act
 ticks_by _ = 0
 
+-- .. at which memory ran out
+abbrev pub misses_by : Event → ℕ
+misses_by (misses_tick given) = 1
+misses_by _ = 0
+
+-- how many links the wire accepted, or failed to
+abbrev pub accepts_by : Event → ℕ
+accepts_by (joins socket link) = 1
+accepts_by turns_away = 1
+accepts_by _ = 0
+
+-- how many pieces of a connection were read
+abbrev pub pieces_by : LinkId → Event → ℕ
+pieces_by k (takes j bytes) = if eq_by_cmp id_cmp j k then 1 else 0
+pieces_by k _ = 0
+
 -- .. of events one after another
 abbrev pub sum_in : (Event → ℕ) → List Event → ℕ
 sum_in f [] = 0
@@ -87,6 +107,21 @@ pub record IsTickDue (now : ℤ) (a : NodeState) : Type 0 where
 -- which took a step itself; and a tick deletes 64. So over turns ticks keep up with any steps.
 abbrev pub most_ticks : ℕ → ℕ
 most_ticks done = 16 + done / 64
+
+-- So many links are accepted in a turn at most.
+abbrev pub most_accepted : ℕ
+most_accepted = 64
+
+-- So many pieces of a connection are read in one at most.
+abbrev pub most_pieces : ℕ
+most_pieces = 64
+
+-- **Why the next turn doesn't wait**: as many links were accepted as may be, or as many pieces of a connection read; or as many ticks were made in a turn with so
+-- many steps, and memory ran out for none.
+pub data MeetsLimit (done : ℕ) (es : List Event) : Type 0 where
+  by_accepts : most_accepted ≤ sum_in accepts_by es → MeetsLimit done es
+  by_reads : (k : LinkId) → most_pieces ≤ sum_in (pieces_by k) es → MeetsLimit done es
+  by_ticks : sum_in ticks_by es ≡ most_ticks done → sum_in misses_by es ≡ 0 → MeetsLimit done es
 
 -- whether an event is one at which a client said SHUTDOWN
 abbrev pub halts_by : Event → Bool
@@ -131,7 +166,7 @@ followed_by (e ∷ es) f = followed_by es (heard_if (news_by e) f)
 
 -- nothing is counted yet
 abbrev pub nothing_counted : Turn
-nothing_counted = record { steps = 0; done = 0; used = 0; deaf = 0; halted = false; followed = no_news }
+nothing_counted = record { steps = 0; done = 0; used = 0; deaf = 0; halted = false; followed = no_news; lacked = no_lack }
 
 -- A turn on its way: the id that the next step is given, what was drawn from the source, and what was counted.
 pub record MomentState : Type 0 where
@@ -155,11 +190,22 @@ module _ (tells : Bool) (mode : SyncMode) where
     pub counts : CountsOn old new s t
     pub no_tick : sum_in ticks_by counts.went.events ≡ 0
 
-  -- So many ticks, and no step.
-  pub record Passes (count : ℕ) (old new : MomentState) (s t : Stage) : Type 0 where
+  -- .. of which so many at least are told of by this count, where there may be more
+  pub record Reaches (f : Event → ℕ) (most : ℕ) (more : Bool) (old new : MomentState) (s t : Stage) : Type 0 where
+    pub still : CountsStill old new s t
+    pub met : more ≡ true → most ≤ sum_in f still.counts.went.events
+
+  -- .. by that of the pieces of some connection
+  pub record ReachesAny (most : ℕ) (more : Bool) (old new : MomentState) (s t : Stage) : Type 0 where
+    pub still : CountsStill old new s t
+    pub met : more ≡ true → (k : LinkId) × (most ≤ sum_in (pieces_by k) still.counts.went.events)
+
+  -- So many ticks, for so many of which memory ran out, and no step.
+  pub record Passes (count missed : ℕ) (old new : MomentState) (s t : Stage) : Type 0 where
     pub counts : CountsOn old new s t
     pub done : new.turn.done ≡ old.turn.done
     pub ticked : sum_in ticks_by counts.went.events ≡ count
+    pub missed_are : sum_in misses_by counts.went.events ≡ missed
 
   -- What a turn tells is what its events come to, and whether a client asked that the program end. Of the ids that its source gave before, these weren't taken;
   -- and that had been drawn from it before, and this since.
@@ -175,9 +221,13 @@ module _ (tells : Bool) (mode : SyncMode) where
     -- time passes
     pub ticked : 0 < sum_in ticks_by went.events
     pub few : sum_in ticks_by went.events ≤ most_ticks turn.done
-    -- **Ticks keep up**: where another would still delete at the last moment, so many were made, and the next turn goes on without waiting
-    pub keeps_up : IsTickDue after.clock t.node → (sum_in ticks_by went.events ≡ most_ticks turn.done) × (t.own.hurries ≡ true)
+    -- **Ticks keep up**: where another would still delete at the last moment, so many were made, and the next turn goes on without waiting; or memory ran out for one
+    pub keeps_up : IsTickDue after.clock t.node → ((sum_in ticks_by went.events ≡ most_ticks turn.done) × (t.own.hurries ≡ true)) ⊎ (0 < sum_in misses_by went.events)
+    -- **The next turn waits, unless this one met a limit**
+    pub hurries_for : t.own.hurries ≡ true → MeetsLimit turn.done went.events
     pub halted : turn.halted ≡ t.own.halted
+    -- what the loop remembers of memory that ran out since the turn began
+    pub lacked_is : turn.lacked ≡ lacked_since s.own.lacked t.own.lacked
 
 -- **The loop knows of each SHUTDOWN**: that a client said so is what it knew before, or of some step.
 abbrev pub KnowsShutdown : Type 0

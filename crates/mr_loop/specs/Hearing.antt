@@ -2,15 +2,15 @@
 use Rattle.std.specs.Prelude.{◌≡◌, ◌≢◌, ℕ, List, Option, Some, None, length}
 use Rattle.mr_links.specs.declared.link_id.LinkId.{LinkId}
 use Rattle.mr_data.specs.declared.given.Given.{Given}
-use Rattle.mr_outs.specs.Outs.{OutsState}
-use Rattle.mr_course.specs.State.{name_of}
-use Rattle.mr_course.specs.declared.upstream.UpstreamStep.{UpstreamStep}
-use Rattle.mr_course.specs.declared.upstream.UpstreamStep.TheVariants as up
-use Rattle.mr_follow.specs.State.{FollowState}
-use Rattle.mr_follow.specs.declared.phase.Phase.{Phase}
-use Rattle.mr_follow.specs.declared.phase.Phase.TheVariants as phase
-use Rattle.mr_rows.specs.State.{NodeState}
-use Rattle.mr_rows.specs.UpstreamRows.{Hears}
+use Rattle.mr_node_output.specs.Outs.{OutsState}
+use Rattle.mr_replication.specs.State.{name_of}
+use Rattle.mr_replication.specs.declared.upstream.UpstreamStep.{UpstreamStep}
+use Rattle.mr_replication.specs.declared.upstream.UpstreamStep.TheVariants as up
+use Rattle.mr_follower.specs.State.{FollowState}
+use Rattle.mr_follower.specs.declared.phase.Phase.{Phase}
+use Rattle.mr_follower.specs.declared.phase.Phase.TheVariants as phase
+use Rattle.mr_node_spec.specs.State.{NodeState}
+use Rattle.mr_node_spec.specs.UpstreamRows.{Hears}
 use Rattle.mr_loop.specs.declared.followed.News.{News}
 use Rattle.mr_loop.specs.declared.followed.News.TheVariants as news
 use Rattle.mr_loop.specs.Stage.{Stage}

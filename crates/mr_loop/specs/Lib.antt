@@ -1,3 +1,4 @@
+pub mod Lacking
 pub mod Stage
 pub mod Carrying
 pub mod News

@@ -1,8 +1,8 @@
 -- What a step came to between a replica and its master, as its host sees it.
 use Rattle.std.specs.Prelude.{ℕ, List, Bool, true, false, ◌==◌, length, Option, Some, None}
-use Rattle.mr_ends.specs.State.{EndState}
-use Rattle.mr_ends.specs.State.EndState.{client, waiting, replica, upstream, shut}
-use Rattle.mr_outs.specs.Outs.{OutsState}
+use Rattle.mr_node_links.specs.State.{EndState}
+use Rattle.mr_node_links.specs.State.EndState.{client, waiting, replica, upstream, shut}
+use Rattle.mr_node_output.specs.Outs.{OutsState}
 use Rattle.mr_node.specs.declared.role.Role.{Role}
 use Rattle.mr_node.specs.declared.role.Role.TheVariants as role
 use Rattle.mr_loop.specs.declared.followed.News.{News}

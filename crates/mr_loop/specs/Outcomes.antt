@@ -9,7 +9,7 @@ use Rattle.mr_loop.specs.declared.told.Turn.{Turn}
 use Rattle.mr_loop.specs.Stage.{Stage}
 use Rattle.mr_loop.specs.Rows.{Event, fault_of, Happens, IsToldToStop, Went}
 use Rattle.mr_loop.specs.Giving.{AreAmong, Rises, Supplies, moments_in, taken_in}
-use Rattle.mr_loop.specs.Counting.{CountsStill, MomentState, TellsOf}
+use Rattle.mr_loop.specs.Counting.{CountsStill, MomentState, Reaches, ReachesAny, TellsOf}
 
 module _ (tells : Bool) (mode : SyncMode) where
   -- Some events, behind each of which the turn goes on, and then one that is told as this fault. It is the last. They have what the source of a turn gives, of whose
@@ -32,6 +32,16 @@ module _ (tells : Bool) (mode : SyncMode) where
   abbrev pub Does : {A : Type 0} → Result A LoopFault → (old new : MomentState) → Stage → Stage → Type 0
   Does (Ok value) old new s t = CountsStill tells mode old new s t
   Does (Err why) old new s t = HasBroken why old new s t
+
+  -- .. and so many at least are told of by this count, where there may be more
+  abbrev pub DoesUpTo : (Event → ℕ) → ℕ → Result Bool LoopFault → (old new : MomentState) → Stage → Stage → Type 0
+  DoesUpTo f most (Ok more) old new s t = Reaches tells mode f most more old new s t
+  DoesUpTo f most (Err why) old new s t = HasBroken why old new s t
+
+  -- .. by that of the pieces of some connection
+  abbrev pub DoesUpToAny : ℕ → Result Bool LoopFault → (old new : MomentState) → Stage → Stage → Type 0
+  DoesUpToAny most (Ok more) old new s t = ReachesAny tells mode most more old new s t
+  DoesUpToAny most (Err why) old new s t = HasBroken why old new s t
 
   -- .. that tells what it counted
   abbrev pub DoesTelling : Result Turn LoopFault → (old new : MomentState) → Stage → Stage → Type 0

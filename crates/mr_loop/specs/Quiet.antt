@@ -3,13 +3,13 @@ use Rattle.std.specs.Prelude.{◌≡◌, ◌≢◌, ◌+◌, List, ℕ, Bool, tr
 use Rattle.std.specs.Ordering.{eq_by_cmp}
 use Rattle.mr_links.specs.LinkId.{id_cmp}
 use Rattle.mr_links.specs.declared.link_id.LinkId.{LinkId}
-use Rattle.mr_ends.specs.State.{EndState, Transaction}
-use Rattle.mr_ends.specs.State.EndState.{client, waiting, replica, upstream, shut}
-use Rattle.mr_follow.specs.State.{FollowState, Agrees as FollowAgrees}
-use Rattle.mr_follow.specs.Rows as follow
-use Rattle.mr_follow.specs.declared.taking.Taking.{Taking}
-use Rattle.mr_rows.specs.State.{NodeState, Agrees, AgreesWithin, ReplicaAgrees, end_of}
-use Rattle.mr_rows.specs.Requests.{Waits}
+use Rattle.mr_node_links.specs.State.{EndState, Transaction}
+use Rattle.mr_node_links.specs.State.EndState.{client, waiting, replica, upstream, shut}
+use Rattle.mr_follower.specs.State.{FollowState, Agrees as FollowAgrees}
+use Rattle.mr_follower.specs.Rows as follow
+use Rattle.mr_follower.specs.declared.taking.Taking.{Taking}
+use Rattle.mr_node_spec.specs.State.{NodeState, Agrees, AgreesWithin, ReplicaAgrees, end_of}
+use Rattle.mr_node_spec.specs.Requests.{Waits}
 
 -- What reads at the link to the master waits for more: bytes that can be unread there hold nothing whole.
 pub record Awaits (f : FollowState) : Type 0 where

@@ -3,9 +3,9 @@ use Rattle.std.specs.Prelude.{◌≡◌, ◌≢◌, ◌≤◌, ℕ, ℤ, List, [
 use Rattle.std.specs.FinMap as map
 use Rattle.mr_links.specs.declared.link_id.LinkId.{LinkId}
 use Rattle.mr_data.specs.declared.given.Given.{Given}
-use Rattle.mr_outs.specs.Outs.{OutsState, outs_of}
-use Rattle.mr_rows.specs.State.{NodeState, stopped_as}
-use Rattle.mr_rows.specs.LinkRows.{Opens, closed_at}
+use Rattle.mr_node_output.specs.Outs.{OutsState, outs_of}
+use Rattle.mr_node_spec.specs.State.{NodeState, end_of, stopped_as}
+use Rattle.mr_node_spec.specs.LinkRows.{Opens, closed_at}
 use Rattle.mr_node.specs.declared.fault.NodeFault.TheVariants as refusal
 use Rattle.mr_node.specs.declared.step.Step.TheVariants as step
 use Rattle.mr_file.specs.LogFile.{Appends, AppendsSome, IsSynced, Rose}
@@ -17,8 +17,13 @@ use Rattle.mr_wire.specs.declared.wire.Moved.TheVariants as moved
 use Rattle.mr_connections.specs.State.{HasLink, begun, changed, parted, wrote}
 use Rattle.mr_loop.specs.declared.fault.LoopFault.{LoopFault}
 use Rattle.mr_loop.specs.declared.fault.LoopFault.TheVariants as fault
-use Rattle.mr_node.specs.Calls.{FeedRow, OpensNoMore}
-use Rattle.mr_loop.specs.Stage.{Lacks, Stage, committed, connection_at, lacking, with_connections}
+use Rattle.mr_node.specs.Calls.{FeedRow, IsUnread, OpensNoMore}
+use Rattle.mr_node.specs.Parts.{role_of}
+use Rattle.mr_loop.specs.declared.lacking.Asked.{Asked}
+use Rattle.mr_loop.specs.declared.lacking.Asked.TheVariants as asked
+use Rattle.mr_loop.specs.Lacking.{asked_at, told_or_none, told_with}
+use Rattle.mr_loop.specs.News.{is_client_end, place_of}
+use Rattle.mr_loop.specs.Stage.{Lacks, Stage, committed, connection_at, lacking, losing, with_connections}
 use Rattle.mr_loop.specs.Carrying.{Carried, SameFile, Spilled, Torn}
 use Rattle.mr_loop.specs.Causes.{Act, Calls, Dropped, Fed, Has, HasInput, HasRoom, IsBurdened, IsRead, IsStuck, Stepped, Stop, Stopping, Touches, TurnsOff}
 
@@ -98,25 +103,25 @@ pub record Joins (socket link : LinkId) (s t : Stage) : Type 0 where
   pub lacked : t.own.lacked ≡ s.own.lacked
   pub file : SameFile s t
 
--- Why no connection comes of a link that was accepted or dialled: the wire failed, and there is none; memory ran out; or the node opens no more.
-pub data TurnsAwayFor (s t : Stage) : Type 0 where
-  wire_failed : Rose s.failed t.failed → t.node ≡ s.node → t.own.lacked ≡ s.own.lacked → TurnsAwayFor s t
-  memory_lacked : Lacks s.own t.own → TurnsAwayFor s t
-  opens_no_more : (stopped : NodeState) → OpensNoMore s.node stopped → t.node ≡ s.node → t.own.lacked ≡ s.own.lacked → TurnsAwayFor s t
+-- Why no connection comes of a link that was accepted or dialled: the wire failed, and there is none; memory ran out for it; or the node opens no more.
+pub data TurnsAwayFor (what : Asked) (s t : Stage) : Type 0 where
+  wire_failed : Rose s.failed t.failed → t.node ≡ s.node → t.own.lacked ≡ s.own.lacked → TurnsAwayFor what s t
+  memory_lacked : Lacks what s.own t.own → TurnsAwayFor what s t
+  opens_no_more : (stopped : NodeState) → OpensNoMore s.node stopped → t.node ≡ s.node → t.own.lacked ≡ s.own.lacked → TurnsAwayFor what s t
 
 -- **No connection comes of what was accepted or dialled only at such a cause**, and the wire's link is closed again.
-pub record TurnsAway (s t : Stage) : Type 0 where
+pub record TurnsAway (what : Asked) (s t : Stage) : Type 0 where
   pub wire : AcceptsNone s.wire t.wire
   pub later : s.failed ≤ t.failed
   pub node : TurnsOff s.node t.node
   pub own : t.own ≡ record s.own { lacked = t.own.lacked }
-  pub why : TurnsAwayFor s t
+  pub why : TurnsAwayFor what s t
   pub file : SameFile s t
 
--- **A connection is read of only where at most so much waits for it**, no more than the node takes; and what is read is fed.
+-- **A client is read of only where at most so much waits for it**, and nobody of more than the node takes; what is read is fed.
 pub record Takes (tells : Bool) (socket : LinkId) (bytes : List ℕ) (s t : Stage) : Type 0 where
   pub link : LinkId
-  pub read : IsRead s.own socket link
+  pub read : IsRead s.node s.own socket link
   pub count : ℕ
   pub buffer : List ℕ
   pub bytes_are : bytes ≡ take count buffer
@@ -129,7 +134,7 @@ pub record Takes (tells : Bool) (socket : LinkId) (bytes : List ℕ) (s t : Stag
 
 pub record FindsNone (tells : Bool) (socket : LinkId) (s t : Stage) : Type 0 where
   pub link : LinkId
-  pub read : IsRead s.own socket link
+  pub read : IsRead s.node s.own socket link
   pub answer : Moved
   pub buffer : List ℕ
   pub none : count_of answer ≡ 0
@@ -142,7 +147,7 @@ pub record FindsNone (tells : Bool) (socket : LinkId) (s t : Stage) : Type 0 whe
 
 -- The peer sends no more. What waits for it is still written.
 pub record HearsEnd (tells : Bool) (socket link : LinkId) (s t : Stage) : Type 0 where
-  pub read : IsRead s.own socket link
+  pub read : IsRead s.node s.own socket link
   pub buffer : List ℕ
   pub wire : Touches s.wire socket (behind_read tells moved.End buffer) [] t.wire
   pub later : s.failed ≤ t.failed
@@ -153,7 +158,7 @@ pub record HearsEnd (tells : Bool) (socket link : LinkId) (s t : Stage) : Type 0
 -- **A read failed**, as the wire counts.
 pub record Loses (tells : Bool) (socket : LinkId) (s t : Stage) : Type 0 where
   pub link : LinkId
-  pub read : IsRead s.own socket link
+  pub read : IsRead s.node s.own socket link
   pub buffer : List ℕ
   pub wire : WireState
   pub touched : Touches s.wire socket (behind_read tells moved.Failed buffer) [] wire
@@ -161,10 +166,10 @@ pub record Loses (tells : Bool) (socket : LinkId) (s t : Stage) : Type 0 where
   pub rose : Rose s.failed failed
   pub dropped : Dropped socket (Some link) (record s { wire = wire; failed = failed }) t
 
--- Bytes were read, and the node had no memory for them, though room.
+-- Bytes were read, and the node had no memory for them, though room. It is remembered how many were unread with them.
 pub record Misses (tells : Bool) (socket : LinkId) (s t : Stage) : Type 0 where
   pub link : LinkId
-  pub read : IsRead s.own socket link
+  pub read : IsRead s.node s.own socket link
   pub count : ℕ
   pub buffer : List ℕ
   pub wire : WireState
@@ -172,14 +177,22 @@ pub record Misses (tells : Bool) (socket : LinkId) (s t : Stage) : Type 0 where
   pub failed : ℕ
   pub later : s.failed ≤ failed
   pub refused : FeedRow s.node link (take count buffer) (length (take count buffer)) s.node (Err refusal.Memory)
-  pub dropped : Dropped socket (Some link) (record s { wire = wire; failed = failed; own = lacking s.own }) t
+  pub unread : Option ℕ
+  pub counted : IsUnread s.node link unread
+  pub dropped : Dropped socket (Some link) (record s { wire = wire; failed = failed; own = losing (asked.Bytes (told_with unread count)) s.own }) t
+
+-- what a step for which memory ran out leaves, before its connection is closed: where that was is remembered, and how many bytes are unread there
+abbrev pub behind_refusal : Stage → LinkId → NodeState → Option ℕ → Stage
+behind_refusal s link node unread = record s { node = node; own = losing (asked_at (place_of (role_of s.node) (is_client_end (end_of s.node link))) (told_or_none unread)) s.own }
 
 -- The node had no memory for a step.
 pub record IsRefused (socket link : LinkId) (given : Given) (fresh : List ℕ) (s t : Stage) : Type 0 where
   pub has : HasLink s.own.connections socket link
   pub node : NodeState
   pub refused : Stepped s.node link given fresh node (Err refusal.Memory)
-  pub dropped : Dropped socket (Some link) (record s { node = node; own = lacking s.own }) t
+  pub unread : Option ℕ
+  pub counted : IsUnread node link unread
+  pub dropped : Dropped socket (Some link) (behind_refusal s link node unread) t
 
 -- **In place of a step**: something is unread on a client's link, more waits for the client than it may leave so, and the last write to it moved nothing.
 pub record IsDeaf (tells : Bool) (socket link : LinkId) (s t : Stage) : Type 0 where
@@ -286,7 +299,7 @@ module _ (tells : Bool) (mode : SyncMode) where
   Happens s (wakes now) t = HasWaited s t
   Happens s waits t = HasWaited s t
   Happens s (joins socket link) t = Joins socket link s t
-  Happens s turns_away t = TurnsAway s t
+  Happens s turns_away t = TurnsAway asked.Accept s t
   Happens s (takes socket bytes) t = Takes tells socket bytes s t
   Happens s (finds_none socket) t = FindsNone tells socket s t
   Happens s (hears_end socket link) t = HearsEnd tells socket link s t
@@ -304,7 +317,7 @@ module _ (tells : Bool) (mode : SyncMode) where
   Happens s (appends texts) t = IsAppended mode texts s t
   Happens s fails t = FailsAtFile s t
   Happens s (misses_tick given) t = MissesTick s t
-  Happens s misses_dial t = TurnsAway s t
+  Happens s misses_dial t = TurnsAway asked.Dial s t
   Happens s (settles hurries) t = Settles hurries s t
   Happens s (stops stop) t = IsStopped stop s t
 

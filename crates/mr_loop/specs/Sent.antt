@@ -4,7 +4,7 @@ use Rattle.std.specs.Ordering.{eq_by_cmp}
 use Rattle.std.specs.FinMap as map
 use Rattle.mr_links.specs.LinkId.{id_cmp}
 use Rattle.mr_links.specs.declared.link_id.LinkId.{LinkId}
-use Rattle.mr_outs.specs.Outs.{OutState, grow, append, replace, send, close, use_id, follow, halt, outs_of}
+use Rattle.mr_node_output.specs.Outs.{OutState, grow, append, replace, send, close, use_id, follow, halt, outs_of}
 use Rattle.mr_wire.specs.Wire.{LinkState, SentState, WireState, sent_on}
 use Rattle.mr_source.specs.Drawn.{DrawnState}
 use Rattle.mr_file.specs.LogFile.{IsSynced}

@@ -1,8 +1,8 @@
 -- What a write leaves of a connection with a link.
 use Rattle.std.specs.Prelude.{◌≡◌, ◌<◌, ◌⊎◌, List, [], ℕ, Bool, Option, None, Some, length}
 use Rattle.mr_links.specs.declared.link_id.LinkId.{LinkId}
-use Rattle.mr_rows.specs.State.{NodeState}
-use Rattle.mr_rows.specs.LinkRows.{closed_at}
+use Rattle.mr_node_spec.specs.State.{NodeState}
+use Rattle.mr_node_spec.specs.LinkRows.{closed_at}
 use Rattle.mr_wire.specs.Wire.{WireState}
 use Rattle.mr_connections.specs.State.{ConnectionState, HasLink}
 use Rattle.mr_loop.specs.declared.writing.Wrote.{Wrote}

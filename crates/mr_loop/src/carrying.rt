@@ -1,10 +1,10 @@
 // What the node gives out.
 ghost use Rattle.std.specs.Prelude.{◌≡◌, OnOk, OnErr, IfErr, IsErrOf, true};
-ghost use Rattle.mr_outs.specs.Outs.{outs_of, replace};
-ghost use Rattle.mr_rows.specs.LinkRows.{closed_at};
+ghost use Rattle.mr_node_output.specs.Outs.{outs_of, replace};
+ghost use Rattle.mr_node_spec.specs.LinkRows.{closed_at};
 ghost use Rattle.mr_connections.specs.State.{parted};
 ghost use Rattle.mr_loop.specs.Stage.{with_connections};
-ghost use Rattle.mr_outs.specs.Listing.{out_view};
+ghost use Rattle.mr_node_output.specs.Listing.{out_view};
 ghost use Rattle.mr_loop.specs.Carrying.{CarriesAs, CarriesOneAs, SoFar};
 ghost use Rattle.mr_loop.specs.Counting.{Renewed};
 ghost use Rattle.mr_loop.specs.Hosts.{IsSame, moment_in, stage_in};
@@ -13,7 +13,7 @@ use crate::fault::LoopFault;
 use crate::host::Host;
 use mr_file::LogFile;
 use mr_links::LinkId;
-use mr_outs::{Out, Outs};
+use mr_node_output::{Out, Outs};
 use mr_source::Source;
 use mr_wire::Wire;
 use std::alloc::AllocError;
@@ -21,8 +21,11 @@ use std::alloc::AllocError;
 impl<W: Wire, F: LogFile, S: Source> Host<'_, '_, W, F, S> {
     /// What a call on the node gave out is carried out. Where the node took the fresh id, another is drawn.
     pub(crate) fn take(&mut self, mut outs: Outs) -> Result<(), LoopFault>
-        ensures carried { CarriesAs result (outs_of outs) (stage_in W.links W.failures F.told F.synced self.old) (stage_in W.links W.failures F.told F.synced self.new) }
-        ensures moment { OnOk result (Renewed outs.used (moment_in S.drawn self.old) (moment_in S.drawn self.new)) }
+        ensures carried { CarriesAs result (outs_of outs)
+            (stage_in W.links W.failures F.told F.synced self.old)
+            (stage_in W.links W.failures F.told F.synced self.new) }
+        ensures moment { OnOk result
+            (Renewed outs.used (moment_in S.drawn self.old) (moment_in S.drawn self.new)) }
         ensures kept { OnErr result (moment_in S.drawn self.new ≡ moment_in S.drawn self.old) }
         ensures same { IsSame W.waited self.old self.new }
         ensures device { IsErrOf result LoopFault.File → self.new.log.now.broken ≡ true }
@@ -40,7 +43,9 @@ impl<W: Wire, F: LogFile, S: Source> Host<'_, '_, W, F, S> {
 
     /// All outs are carried out, one after another. Long texts and a long reply go with their memory.
     fn carry_all(&mut self, outs: &mut Outs) -> Result<(), LoopFault>
-        ensures carried { CarriesAs result (outs_of outs.old) (stage_in W.links W.failures F.told F.synced self.old) (stage_in W.links W.failures F.told F.synced self.new) }
+        ensures carried { CarriesAs result (outs_of outs.old)
+            (stage_in W.links W.failures F.told F.synced self.old)
+            (stage_in W.links W.failures F.told F.synced self.new) }
         ensures moment { moment_in S.drawn self.new ≡ moment_in S.drawn self.old }
         ensures same { IsSame W.waited self.old self.new }
         ensures device { IsErrOf result LoopFault.File → self.new.log.now.broken ≡ true }
@@ -59,8 +64,14 @@ impl<W: Wire, F: LogFile, S: Source> Host<'_, '_, W, F, S> {
 
     /// Long texts in front wait for the file, with their memory where nothing else does.
     fn carry_first(&mut self, outs: &mut Outs) -> Result<(), LoopFault>
-        ensures ok { OnOk result (SoFar (outs_of outs.old) (outs_of outs.new) (stage_in W.links W.failures F.told F.synced self.old) (stage_in W.links W.failures F.told F.synced self.new)) }
-        ensures err { OnErr result (CarriesAs result (outs_of outs.old) (stage_in W.links W.failures F.told F.synced self.old) (stage_in W.links W.failures F.told F.synced self.new)) }
+        ensures ok { OnOk result
+            (SoFar (outs_of outs.old) (outs_of outs.new)
+            (stage_in W.links W.failures F.told F.synced self.old)
+            (stage_in W.links W.failures F.told F.synced self.new)) }
+        ensures err { OnErr result
+            (CarriesAs result (outs_of outs.old)
+            (stage_in W.links W.failures F.told F.synced self.old)
+            (stage_in W.links W.failures F.told F.synced self.new)) }
         ensures fault { IfErr result (λ e. e ≡ LoopFault.Stopped) }
         ensures moment { moment_in S.drawn self.new ≡ moment_in S.drawn self.old }
         ensures same { IsSame W.waited self.old self.new }
@@ -75,7 +86,9 @@ impl<W: Wire, F: LogFile, S: Source> Host<'_, '_, W, F, S> {
 
     /// All outs are carried out, one after another.
     fn carry_out(&mut self, outs: &Outs) -> Result<(), LoopFault>
-        ensures carried { CarriesAs result (outs_of outs.now) (stage_in W.links W.failures F.told F.synced self.old) (stage_in W.links W.failures F.told F.synced self.new) }
+        ensures carried { CarriesAs result (outs_of outs.now)
+            (stage_in W.links W.failures F.told F.synced self.old)
+            (stage_in W.links W.failures F.told F.synced self.new) }
         ensures moment { moment_in S.drawn self.new ≡ moment_in S.drawn self.old }
         ensures same { IsSame W.waited self.old self.new }
         ensures device { IsErrOf result LoopFault.File → self.new.log.now.broken ≡ true }
@@ -88,7 +101,9 @@ impl<W: Wire, F: LogFile, S: Source> Host<'_, '_, W, F, S> {
 
     /// One of them is carried out.
     fn carry(&mut self, out: Out<'_>) -> Result<(), LoopFault>
-        ensures carried { CarriesOneAs result (out_view out.entry) (stage_in W.links W.failures F.told F.synced self.old) (stage_in W.links W.failures F.told F.synced self.new) }
+        ensures carried { CarriesOneAs result (out_view out.entry)
+            (stage_in W.links W.failures F.told F.synced self.old)
+            (stage_in W.links W.failures F.told F.synced self.new) }
         ensures moment { moment_in S.drawn self.new ≡ moment_in S.drawn self.old }
         ensures same { IsSame W.waited self.old self.new }
         ensures device { IsErrOf result LoopFault.File → self.new.log.now.broken ≡ true }
@@ -129,7 +144,9 @@ impl<W: Wire, F: LogFile, S: Source> Host<'_, '_, W, F, S> {
 
     /// The file is replaced at once. The new one has all effects so far, so that nothing waits for it any more.
     fn rewrite(&mut self, whole: &[u8]) -> Result<(), LoopFault>
-        ensures carried { CarriesOneAs result (replace whole.now) (stage_in W.links W.failures F.told F.synced self.old) (stage_in W.links W.failures F.told F.synced self.new) }
+        ensures carried { CarriesOneAs result (replace whole.now)
+            (stage_in W.links W.failures F.told F.synced self.old)
+            (stage_in W.links W.failures F.told F.synced self.new) }
         ensures moment { moment_in S.drawn self.new ≡ moment_in S.drawn self.old }
         ensures same { IsSame W.waited self.old self.new }
         ensures device { IsErrOf result LoopFault.File → self.new.log.now.broken ≡ true }

@@ -12,7 +12,8 @@ use mr_wire::Wire;
 impl<W: Wire, F: LogFile, S: Source> Host<'_, '_, W, F, S> {
     /// Closes a connection, at the node where that has an end of it, and on the wire. What waits is dropped.
     pub(crate) fn drop_connection(&mut self, socket: LinkId, link: Option<LinkId>)
-        ensures dropped { Dropped socket link (stage_in W.links W.failures F.told F.synced self.old) (stage_in W.links W.failures F.told F.synced self.new) }
+        ensures dropped { Dropped socket link (stage_in W.links W.failures F.told F.synced self.old)
+            (stage_in W.links W.failures F.told F.synced self.new) }
         ensures moment { moment_in S.drawn self.new ≡ moment_in S.drawn self.old }
         ensures same { IsSame W.waited self.old self.new }
     {

@@ -13,7 +13,8 @@ use mr_wire::Wire;
 impl<W: Wire, F: LogFile, S: Source> Host<'_, '_, W, F, S> {
     /// Appends what waits for the file, and syncs it with `Always`. Where nothing waits, no call is made.
     pub(crate) fn commit(&mut self) -> Result<(), LoopFault>
-        ensures went { GoesAs W.tells W.links W.failures F.told F.synced S.drawn result self.old self.new }
+        ensures went { GoesAs W.tells W.links W.failures F.told F.synced S.drawn result self.old
+            self.new }
         ensures all { OnOk result (self.new.own.now ≡ committed self.old.own.now) }
         ensures node { self.new.node.now ≡ self.old.node.now }
         ensures moment { moment_in S.drawn self.new ≡ moment_in S.drawn self.old }

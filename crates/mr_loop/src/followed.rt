@@ -4,7 +4,7 @@ ghost use Rattle.mr_loop.specs.News.{answered_by, copied_in, elsewhere_if, news_
 ghost use Rattle.mr_loop.specs.Counting.{heard, no_news};
 
 use mr_node::Role;
-use mr_outs::Outs;
+use mr_node_output::Outs;
 
 /// Where a step is made.
 #[derive(Clone, Copy)]

@@ -9,6 +9,7 @@ mod fault;
 mod filing;
 mod followed;
 mod host;
+mod lacking;
 mod laws;
 mod links;
 mod moment;
@@ -22,6 +23,7 @@ mod writing;
 
 pub use fault::LoopFault;
 pub use followed::Followed;
+pub use lacking::{Asked, Lacked};
 pub use laws::{
     connections_have_sockets, ids_are_taken_once, moments_never_go_back, nothing_else_is_sent,
     nothing_is_sent_behind_a_fault, shutdown_is_known, the_wire_has_what_is_sent,

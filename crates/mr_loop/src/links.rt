@@ -2,10 +2,13 @@
 ghost use Rattle.std.specs.Prelude.{◌≡◌, ◌≤◌, ◌||◌, [], length, false, true, IfOk, IfSome, IfNone, OnOk, OnErr, None, Some, option_copied};
 ghost use Rattle.std.specs.FinMap as map;
 ghost use Rattle.mr_connections.specs.State.{HasLink, NoneDone, NoneHas, begun, changed, parted, sent, wrote};
-ghost use Rattle.mr_loop.specs.Stage.{LoopState, committed, connection_at, filed, halting, lacking, with_connections};
+ghost use Rattle.mr_loop.specs.Lacking.{no_lack};
+ghost use Rattle.mr_loop.specs.Stage.{LoopState, committed, connection_at, filed, halting, lacking, losing, with_connections};
 
-use mr_connections::{Connection, Connections, PIECE};
+use crate::lacking::{Asked, Lacked};
+use mr_connections::{Connection, Connections, PIECE, Patience};
 use mr_links::LinkId;
+use mr_node::Role;
 use std::alloc::{AllocError, Global};
 use std::hash::RandomState;
 use std::marker::Model;
@@ -13,9 +16,6 @@ use std::mem;
 
 /// A turn waits so many milliseconds at most.
 const LONGEST_WAIT: u64 = 100;
-
-/// So many milliseconds pass before a master that was dialled is dialled again, while the clock moves.
-const REDIAL_AFTER: i64 = 100;
 
 /// More room for what waits for the file isn't kept: as many bytes as a turn reads of one connection.
 const MOST_ROOM: usize = 4_194_304;
@@ -30,14 +30,14 @@ pub struct Links {
     halted: bool,
     /// The last turn met a limit, so that the next doesn't wait.
     hurries: bool,
-    /// How often memory ran out. The count stays at its greatest.
-    lacked: u64,
+    /// How often memory ran out.
+    lacked: Lacked,
     /// Room for what one read gives.
     piece: Vec<u8>,
     /// For the datasets of snapshots.
     seed: RandomState,
-    /// When the master was dialled last. None where it may be dialled at once.
-    dialled: Option<i64>,
+    /// When the master may be dialled again.
+    patience: Patience,
 }
 
 impl Model for Links {
@@ -53,7 +53,14 @@ impl Model for Links {
 impl Links {
     /// No connections. The datasets of snapshots that are loaded have this seed, which changes no answer.
     pub fn new(alloc: Global, seed: RandomState) -> Result<Links, AllocError>
-        ensures { IfOk result (λ links. links ≡ record { connections = map.empty; batch = []; halted = false; hurries = false; lacked = 0 }) }
+        ensures { IfOk result (λ links.
+            links ≡ record {
+              connections = map.empty;
+              batch = [];
+              halted = false;
+              hurries = false;
+              lacked = no_lack;
+            }) }
     {
         let piece = Vec::from_elem(alloc, 0u8, PIECE)?;
         Ok(Links {
@@ -62,10 +69,10 @@ impl Links {
             batch: Vec::new(alloc),
             halted: false,
             hurries: false,
-            lacked: 0,
+            lacked: Lacked::none(),
             piece,
             seed,
-            dialled: None,
+            patience: Patience::new(),
         })
     }
 
@@ -78,8 +85,8 @@ impl Links {
     }
 
     /// How often memory ran out: for a link that a peer opened or that leads to the master, for bytes that came, a step, time that
-    /// passes, or what the node gave out. The count stays at its greatest.
-    pub fn lacked(&self) -> u64
+    /// passes, or what the node gave out.
+    pub fn lacked(&self) -> Lacked
         ensures { result ≡ self.now.lacked }
     {
         self.lacked
@@ -123,11 +130,18 @@ impl Links {
         self.halted = true;
     }
 
-    /// Memory ran out.
+    /// Memory ran out, and no link is closed for it.
     pub(crate) fn lack(&mut self)
         ensures { self.new ≡ lacking self.old }
     {
-        self.lacked = self.lacked.saturating_add(1);
+        self.lacked.count();
+    }
+
+    /// Memory ran out as this was asked for, and a link is closed for it.
+    pub(crate) fn lose(&mut self, asked: Asked)
+        ensures { self.new ≡ losing asked self.old }
+    {
+        self.lacked.count_link(asked);
     }
 
     /// For the datasets of snapshots.
@@ -137,24 +151,31 @@ impl Links {
 
     /// Whether the master may be dialled at this moment: not so soon again, unless the clock stands still.
     pub(crate) fn may_dial(&self, now: i64) -> bool {
-        match self.dialled {
-            None => true,
-            Some(last) => now <= last || now >= last.saturating_add(REDIAL_AFTER),
-        }
+        self.patience.may_dial(now)
     }
 
     /// The master is dialled at this moment.
     pub(crate) fn note_dial(&mut self, now: i64)
         ensures { self.new ≡ self.old }
     {
-        self.dialled = Some(now);
+        self.patience.note(now);
+    }
+
+    /// The node has this role. Where it is in its master's stream, that is dialled again soon once it breaks.
+    pub(crate) fn note_role(&mut self, role: Role)
+        ensures { self.new ≡ self.old }
+    {
+        match role {
+            Role::Connected => self.patience.trust(),
+            Role::Master | Role::Connect | Role::Sync => {}
+        }
     }
 
     /// Another master is to be followed: it may be dialled at once.
     pub(crate) fn forget_dial(&mut self)
         ensures { self.new ≡ self.old }
     {
-        self.dialled = None;
+        self.patience = Patience::new();
     }
 }
 
@@ -208,8 +229,8 @@ impl Links {
 
 // The connections.
 impl Links {
-    /// The connection under the name of this socket.
-    pub(crate) fn connection(&self, socket: LinkId) -> Option<&Connection>
+    /// The connection under the name of this socket, if there is one: with its link of the node, until that has closed its end.
+    pub fn connection(&self, socket: LinkId) -> Option<&Connection>
         ensures { option_copied result ≡ connection_at self.now socket }
     {
         self.connections.get(socket)
@@ -223,21 +244,17 @@ impl Links {
     /// A connection begins. None does where memory runs out.
     pub(crate) fn join(&mut self, socket: LinkId, link: LinkId) -> Result<(), AllocError>
         ensures fresh { OnOk result (connection_at self.old socket ≡ None) }
-        ensures joined { OnOk result (self.new ≡ record self.old { connections = map.insert self.old.connections socket (begun link) }) }
-        ensures err { OnErr result (self.new ≡ lacking self.old) }
+        ensures joined { OnOk result (self.new ≡
+            record self.old { connections = map.insert self.old.connections socket (begun link) }) }
+        ensures err { OnErr result (self.new ≡ self.old) }
     {
-        match self.connections.join(socket, link) {
-            Ok(()) => Ok(()),
-            Err(refused) => {
-                self.lack();
-                Err(refused)
-            }
-        }
+        self.connections.join(socket, link)
     }
 
     /// Takes a connection out.
     pub(crate) fn remove(&mut self, socket: LinkId)
-        ensures { self.new ≡ record self.old { connections = map.remove self.old.connections socket } }
+        ensures { self.new ≡
+            record self.old { connections = map.remove self.old.connections socket } }
     {
         self.connections.remove(socket);
     }
@@ -251,7 +268,8 @@ impl Links {
 
     /// A connection whose end the node has closed, and on which nothing waits, if there is one.
     pub(crate) fn next_done(&self) -> Option<LinkId>
-        ensures some { IfSome result (λ socket. connection_at self.now socket ≡ Some (record { link = None; waiting = [] })) }
+        ensures some { IfSome result (λ socket.
+            connection_at self.now socket ≡ Some (record { link = None; waiting = [] })) }
         ensures none { IfNone result (NoneDone self.now.connections) }
     {
         self.connections.next_done()
@@ -273,7 +291,8 @@ impl Links {
 
     /// As `send`, of bytes that aren't copied where nothing waits there, as `file_whole` has it.
     pub(crate) fn send_whole(&mut self, link: LinkId, bytes: &mut Vec<u8>) -> Result<(), AllocError>
-        ensures ok { OnOk result (self.new ≡ with_connections (sent link bytes.old.items) self.old) }
+        ensures ok { OnOk result (self.new ≡
+            with_connections (sent link bytes.old.items) self.old) }
         ensures err { OnErr result (self.new ≡ lacking self.old) }
     {
         match self.connections.send_whole(link, bytes) {

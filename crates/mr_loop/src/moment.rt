@@ -23,7 +23,8 @@ impl Moment {
     pub(crate) fn begun<S: Source>(source: &mut S) -> Moment
         ensures turn { result.turn ≡ nothing_counted }
         ensures forward { (S.drawn source.old).clock ≤ℤ result.begun }
-        ensures drawn { S.drawn source.new ≡ with_moment result.begun (with_id result.fresh (S.drawn source.old)) }
+        ensures drawn { S.drawn source.new ≡
+            with_moment result.begun (with_id result.fresh (S.drawn source.old)) }
     {
         let fresh = source.id();
         let begun = source.now();
@@ -47,7 +48,8 @@ impl Moment {
 
     /// The fresh id was taken: that is counted, and there is another.
     pub(crate) fn renew(&mut self, fresh: ReplId)
-        ensures turn { self.new.turn ≡ record self.old.turn { used = counted (self.old.turn.used + 1) } }
+        ensures turn { self.new.turn ≡
+            record self.old.turn { used = counted (self.old.turn.used + 1) } }
         ensures fresh { self.new.fresh ≡ fresh }
     {
         self.turn.count_id();
@@ -56,7 +58,8 @@ impl Moment {
 
     /// Counts a step that the node is asked for.
     pub(crate) fn count_step(&mut self)
-        ensures turn { self.new.turn ≡ record self.old.turn { steps = counted (self.old.turn.steps + 1) } }
+        ensures turn { self.new.turn ≡
+            record self.old.turn { steps = counted (self.old.turn.steps + 1) } }
         ensures fresh { self.new.fresh ≡ self.old.fresh }
     {
         self.turn.count_step();
@@ -64,7 +67,8 @@ impl Moment {
 
     /// Counts that such a step used something.
     pub(crate) fn count_use(&mut self)
-        ensures turn { self.new.turn ≡ record self.old.turn { done = counted (self.old.turn.done + 1) } }
+        ensures turn { self.new.turn ≡
+            record self.old.turn { done = counted (self.old.turn.done + 1) } }
         ensures fresh { self.new.fresh ≡ self.old.fresh }
     {
         self.turn.count_use();
@@ -72,7 +76,8 @@ impl Moment {
 
     /// Counts what a step came to between a replica and its master, if there is something.
     pub(crate) fn hear(&mut self, news: Option<News>)
-        ensures turn { self.new.turn ≡ record self.old.turn { followed = heard_if news self.old.turn.followed } }
+        ensures turn { self.new.turn ≡
+            record self.old.turn { followed = heard_if news self.old.turn.followed } }
         ensures fresh { self.new.fresh ≡ self.old.fresh }
     {
         self.turn.hear(news);
@@ -80,7 +85,8 @@ impl Moment {
 
     /// Counts a client that is given up since it left too much unread.
     pub(crate) fn count_deaf(&mut self)
-        ensures turn { self.new.turn ≡ record self.old.turn { deaf = counted (self.old.turn.deaf + 1) } }
+        ensures turn { self.new.turn ≡
+            record self.old.turn { deaf = counted (self.old.turn.deaf + 1) } }
         ensures fresh { self.new.fresh ≡ self.old.fresh }
     {
         self.turn.count_deaf();

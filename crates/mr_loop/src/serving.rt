@@ -25,7 +25,12 @@ pub fn serve<W: Wire, F: LogFile, S: Source>(
     requires filed { links.old.batch ≡ [] }
     requires runs { links.old.halted ≡ false }
     requires up { node.old.core.up ≡ true }
-    ensures went { Serves W.tells log.old.mode turns result (S.drawn source.old) (S.drawn source.new) (stage node.old links.old (W.links wire.old) (W.failures wire.old) (F.told log.old.file) (F.synced log.old.file)) (stage node.new links.new (W.links wire.new) (W.failures wire.new) (F.told log.new.file) (F.synced log.new.file)) }
+    ensures went { Serves W.tells log.old.mode turns result (S.drawn source.old)
+        (S.drawn source.new)
+        (stage node.old links.old (W.links wire.old) (W.failures wire.old) (F.told log.old.file)
+        (F.synced log.old.file))
+        (stage node.new links.new (W.links wire.new) (W.failures wire.new) (F.told log.new.file)
+        (F.synced log.new.file)) }
     ensures device { IsErrOf result LoopFault.File → log.new.broken ≡ true }
     ensures written { OnOk result (links.new.batch ≡ []) }
     ensures quiet { AllWait node.old → OnOk result (AllWait node.new) }

@@ -2,7 +2,7 @@
 ghost use Rattle.std.specs.Prelude.{◌≡◌, ◌<◌, false, true, IfErr, IfOk, IsErrOf, IsTrue, OnOk};
 ghost use Rattle.mr_connections.specs.State.{HasLink};
 ghost use Rattle.mr_node.specs.Parts.{role_of};
-ghost use Rattle.mr_rows.specs.State.{end_of};
+ghost use Rattle.mr_node_spec.specs.State.{end_of};
 ghost use Rattle.mr_loop.specs.Causes.{HasInput, IsBurdened, IsLight, IsLinked};
 ghost use Rattle.mr_loop.specs.Going.{GoesAs};
 ghost use Rattle.mr_loop.specs.News.{is_client_end, place_of};
@@ -12,6 +12,7 @@ ghost use Rattle.mr_loop.specs.Quiet.{AllWait, OthersWait, WaitsUnless, left_at}
 use crate::fault::LoopFault;
 use crate::followed::{Place, news_of, place_of};
 use crate::host::Host;
+use crate::lacking::{asked_at, told_or_none};
 use crate::moment::given;
 use mr_file::LogFile;
 use mr_links::LinkId;
@@ -26,10 +27,12 @@ impl<W: Wire, F: LogFile, S: Source> Host<'_, '_, W, F, S> {
     /// Steps on a link until nothing whole is there.
     pub(crate) fn step_all(&mut self, socket: LinkId, link: LinkId) -> Result<(), LoopFault>
         requires { IsLinked self.old.node.now self.old.own.now socket link }
-        ensures went { GoesAs W.tells W.links W.failures F.told F.synced S.drawn result self.old self.new }
+        ensures went { GoesAs W.tells W.links W.failures F.told F.synced S.drawn result self.old
+            self.new }
         ensures same { IsSame W.waited self.old self.new }
         ensures device { IsErrOf result LoopFault.File → self.new.log.now.broken ≡ true }
-        ensures quiet { OthersWait self.old.node.now link → OnOk result (AllWait self.new.node.now) }
+        ensures quiet { OthersWait self.old.node.now link →
+            OnOk result (AllWait self.new.node.now) }
     {
         while self.step_next(socket, link)? {}
         Ok(())
@@ -39,12 +42,16 @@ impl<W: Wire, F: LogFile, S: Source> Host<'_, '_, W, F, S> {
     /// was used.
     fn step_next(&mut self, socket: LinkId, link: LinkId) -> Result<bool, LoopFault>
         requires { IsLinked self.old.node.now self.old.own.now socket link }
-        ensures went { GoesAs W.tells W.links W.failures F.told F.synced S.drawn result self.old self.new }
+        ensures went { GoesAs W.tells W.links W.failures F.told F.synced S.drawn result self.old
+            self.new }
         ensures same { IsSame W.waited self.old self.new }
         ensures device { IsErrOf result LoopFault.File → self.new.log.now.broken ≡ true }
-        ensures quiet { OthersWait self.old.node.now link → IfOk result (λ used. WaitsUnless used link self.new.node.now) }
-        ensures linked { IfOk result (λ used. used ≡ true → IsLinked self.new.node.now self.new.own.now socket link) }
-        ensures uses { IfOk result (λ used. used ≡ true → left_at self.new.node.now link < left_at self.old.node.now link) }
+        ensures quiet { OthersWait self.old.node.now link →
+            IfOk result (λ used. WaitsUnless used link self.new.node.now) }
+        ensures linked { IfOk result (λ used. used ≡ true →
+            IsLinked self.new.node.now self.new.own.now socket link) }
+        ensures uses { IfOk result (λ used. used ≡ true →
+            left_at self.new.node.now link < left_at self.old.node.now link) }
     {
         if !self.has_unread(link)? {
             return Ok(false);
@@ -62,8 +69,10 @@ impl<W: Wire, F: LogFile, S: Source> Host<'_, '_, W, F, S> {
     /// Whether something is unread on a link. A stopped node doesn't tell.
     fn has_unread(&self, link: LinkId) -> Result<bool, LoopFault>
         ensures some { IfOk result (λ some. some ≡ true → HasInput self.now.node.now link) }
-        ensures none { IfOk result (λ some. some ≡ false → OthersWait self.now.node.now link → AllWait self.now.node.now) }
-        ensures fault { IfErr result (λ e. (e ≡ LoopFault.Stopped) × (self.now.node.now.core.up ≡ false)) }
+        ensures none { IfOk result (λ some. some ≡ false →
+            OthersWait self.now.node.now link → AllWait self.now.node.now) }
+        ensures fault { IfErr result (λ e. (e ≡ LoopFault.Stopped) ×
+            (self.now.node.now.core.up ≡ false)) }
     {
         // its clause says what the node's ends are
         self.node.sound();
@@ -81,12 +90,16 @@ impl<W: Wire, F: LogFile, S: Source> Host<'_, '_, W, F, S> {
         requires input { HasInput self.old.node.now link }
         requires has { HasLink self.old.own.now.connections socket link }
         requires light { IsLight self.old.node.now self.old.own.now socket link }
-        ensures went { GoesAs W.tells W.links W.failures F.told F.synced S.drawn result self.old self.new }
+        ensures went { GoesAs W.tells W.links W.failures F.told F.synced S.drawn result self.old
+            self.new }
         ensures same { IsSame W.waited self.old self.new }
         ensures device { IsErrOf result LoopFault.File → self.new.log.now.broken ≡ true }
-        ensures quiet { OthersWait self.old.node.now link → IfOk result (λ used. WaitsUnless used link self.new.node.now) }
-        ensures linked { IfOk result (λ used. used ≡ true → IsLinked self.new.node.now self.new.own.now socket link) }
-        ensures uses { IfOk result (λ used. used ≡ true → left_at self.new.node.now link < left_at self.old.node.now link) }
+        ensures quiet { OthersWait self.old.node.now link →
+            IfOk result (λ used. WaitsUnless used link self.new.node.now) }
+        ensures linked { IfOk result (λ used. used ≡ true →
+            IsLinked self.new.node.now self.new.own.now socket link) }
+        ensures uses { IfOk result (λ used. used ≡ true →
+            left_at self.new.node.now link < left_at self.old.node.now link) }
     {
         let given = given(self.source);
         let fresh = self.moment.fresh();
@@ -112,7 +125,8 @@ impl<W: Wire, F: LogFile, S: Source> Host<'_, '_, W, F, S> {
             }
             Err(_refused) => {
                 self.node.sound();
-                self.own.lack();
+                let unread = told_or_none(self.node.unread(link));
+                self.own.lose(asked_at(place, unread));
                 self.drop_connection(socket, Some(link));
                 Ok(false)
             }
@@ -121,7 +135,8 @@ impl<W: Wire, F: LogFile, S: Source> Host<'_, '_, W, F, S> {
 
     /// Where a step on a link is made.
     fn place(&self, link: LinkId) -> Place
-        ensures { result ≡ place_of (role_of self.now.node.now) (is_client_end (end_of self.now.node.now link)) }
+        ensures { result ≡
+            place_of (role_of self.now.node.now) (is_client_end (end_of self.now.node.now link)) }
     {
         match self.node.role() {
             Role::Master | Role::Connect => Place::Elsewhere,
@@ -135,13 +150,18 @@ impl<W: Wire, F: LogFile, S: Source> Host<'_, '_, W, F, S> {
     fn unburden(&mut self, socket: LinkId, link: LinkId) -> Result<bool, LoopFault>
         requires input { HasInput self.old.node.now link }
         requires linked { IsLinked self.old.node.now self.old.own.now socket link }
-        ensures went { GoesAs W.tells W.links W.failures F.told F.synced S.drawn result self.old self.new }
+        ensures went { GoesAs W.tells W.links W.failures F.told F.synced S.drawn result self.old
+            self.new }
         ensures same { IsSame W.waited self.old self.new }
         ensures device { IsErrOf result LoopFault.File → self.new.log.now.broken ≡ true }
-        ensures quiet { OthersWait self.old.node.now link → IfOk result (λ there. there ≡ false → AllWait self.new.node.now) }
-        ensures node { IfOk result (λ there. there ≡ true → self.new.node.now ≡ self.old.node.now) }
-        ensures has { IfOk result (λ there. there ≡ true → HasLink self.new.own.now.connections socket link) }
-        ensures light { IfOk result (λ there. there ≡ true → IsLight self.new.node.now self.new.own.now socket link) }
+        ensures quiet { OthersWait self.old.node.now link →
+            IfOk result (λ there. there ≡ false → AllWait self.new.node.now) }
+        ensures node { IfOk result (λ there. there ≡ true →
+            self.new.node.now ≡ self.old.node.now) }
+        ensures has { IfOk result (λ there. there ≡ true →
+            HasLink self.new.own.now.connections socket link) }
+        ensures light { IfOk result (λ there. there ≡ true →
+            IsLight self.new.node.now self.new.own.now socket link) }
     {
         if !self.is_burdened(socket, link) {
             return Ok(true);
@@ -160,8 +180,10 @@ impl<W: Wire, F: LogFile, S: Source> Host<'_, '_, W, F, S> {
 
     /// Whether a client left too much unread. Of a replica, and of the master, as much may wait as comes.
     fn is_burdened(&self, socket: LinkId, link: LinkId) -> bool
-        ensures burdened { IsTrue result → IsBurdened self.now.node.now self.now.own.now socket link }
-        ensures light { result ≡ false → IsLight self.now.node.now self.now.own.now socket link }
+        ensures burdened { IsTrue result →
+            IsBurdened self.now.node.now self.now.own.now socket link }
+        ensures light { result ≡ false →
+            IsLight self.now.node.now self.now.own.now socket link }
     {
         match self.own.connection(socket) {
             Some(connection) => connection.is_too_much() && self.node.is_client(link),

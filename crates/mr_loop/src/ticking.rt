@@ -10,14 +10,16 @@ use crate::host::Host;
 use crate::moment::given;
 use mr_file::LogFile;
 use mr_node::NodeFault;
-use mr_outs::Outs;
+use mr_node_output::Outs;
 use mr_source::Source;
 use mr_wire::Wire;
 
 impl<W: Wire, F: LogFile, S: Source> Host<'_, '_, W, F, S> {
-    /// Has time pass at the node, again and again while it deletes, and so often at most. It answers whether more may be due.
+    /// Has time pass at the node, again and again while it deletes, and so often at most. It answers whether more may be due now: what
+    /// memory is lacking for waits for a later turn.
     pub(crate) fn tick_all(&mut self) -> Result<bool, LoopFault>
-        ensures went { PassesAs W.tells W.links W.failures F.told F.synced S.drawn result (most_ticks self.old.moment.turn.done) self.old self.new }
+        ensures went { PassesAs W.tells W.links W.failures F.told F.synced S.drawn result
+            (most_ticks self.old.moment.turn.done) self.old self.new }
         ensures same { IsSame W.waited self.old self.new }
         ensures device { IsErrOf result LoopFault.File → self.new.log.now.broken ≡ true }
         ensures quiet { AllWait self.old.node.now → OnOk result (AllWait self.new.node.now) }
@@ -32,9 +34,10 @@ impl<W: Wire, F: LogFile, S: Source> Host<'_, '_, W, F, S> {
         Ok(true)
     }
 
-    /// Time passes at the node. It answers whether another tick may still delete.
+    /// Time passes at the node. It answers whether another tick may still delete, for which memory isn't lacking.
     fn tick(&mut self) -> Result<bool, LoopFault>
-        ensures went { TicksAs W.tells W.links W.failures F.told F.synced S.drawn result self.old self.new }
+        ensures went { TicksAs W.tells W.links W.failures F.told F.synced S.drawn result self.old
+            self.new }
         ensures same { IsSame W.waited self.old self.new }
         ensures device { IsErrOf result LoopFault.File → self.new.log.now.broken ≡ true }
         ensures quiet { AllWait self.old.node.now → OnOk result (AllWait self.new.node.now) }
@@ -50,7 +53,7 @@ impl<W: Wire, F: LogFile, S: Source> Host<'_, '_, W, F, S> {
             Err(NodeFault::Stopped) => Err(LoopFault::Stopped),
             Err(_refused) => {
                 self.own.lack();
-                Ok(true)
+                Ok(false)
             }
         }
     }

@@ -3,6 +3,7 @@ ghost use Rattle.std.specs.Prelude.{◌≡◌, ◌+◌};
 ghost use Rattle.mr_loop.specs.Counting.{counted, heard_if, most_ticks, nothing_counted};
 
 use crate::followed::{Followed, News};
+use crate::lacking::Lacked;
 
 /// So many ticks may be made in each turn.
 const TICKS: u64 = 16;
@@ -25,6 +26,8 @@ pub struct Turn {
     pub halted: bool,
     /// What came of following a master.
     pub followed: Followed,
+    /// How often memory ran out.
+    pub lacked: Lacked,
 }
 
 impl Turn {
@@ -39,6 +42,7 @@ impl Turn {
             deaf: 0,
             halted: false,
             followed: Followed::none(),
+            lacked: Lacked::none(),
         }
     }
 
@@ -86,9 +90,9 @@ impl Turn {
         TICKS + self.done / DELETED
     }
 
-    /// The same, with whether a client said SHUTDOWN.
-    pub(crate) fn with_halted(self, halted: bool) -> Turn
-        ensures { result ≡ record self { halted = halted } }
+    /// The same, with whether a client said SHUTDOWN, and how often memory ran out.
+    pub(crate) fn ended(self, halted: bool, lacked: Lacked) -> Turn
+        ensures { result ≡ record self { halted = halted; lacked = lacked } }
     {
         Turn {
             steps: self.steps,
@@ -97,6 +101,7 @@ impl Turn {
             deaf: self.deaf,
             halted,
             followed: self.followed,
+            lacked,
         }
     }
 }

@@ -1,9 +1,9 @@
 // A turn.
-ghost use Rattle.std.specs.Prelude.{◌≡◌, ◌≤◌, ◌∷◌, [], false, true, OnErr, OnOk, IsErrOf};
+ghost use Rattle.std.specs.Prelude.{◌≡◌, ◌≤◌, ◌||◌, ◌∷◌, [], false, true, OnErr, OnOk, IsErrOf};
 ghost use Rattle.mr_file.specs.LogFile.{Rose};
 ghost use Rattle.mr_connections.specs.State.{NoneDone};
-ghost use Rattle.mr_loop.specs.Counting.{nothing_counted};
-ghost use Rattle.mr_loop.specs.Going.{GoesAs, GoesTelling};
+ghost use Rattle.mr_loop.specs.Counting.{most_pieces, nothing_counted, pieces_by};
+ghost use Rattle.mr_loop.specs.Going.{GoesAs, GoesTelling, GoesUpToAs, ReadsAs};
 ghost use Rattle.mr_loop.specs.Hosts.{IsSame, moment_in, stage_in};
 ghost use Rattle.mr_loop.specs.Outcomes.{Turns};
 ghost use Rattle.mr_loop.specs.Quiet.{AllWait};
@@ -43,11 +43,16 @@ pub fn turn<W: Wire, F: LogFile, S: Source>(
     requires filed { links.old.batch ≡ [] }
     requires runs { links.old.halted ≡ false }
     requires up { node.old.core.up ≡ true }
-    ensures went { Turns W.tells log.old.mode [] (S.drawn source.old) (S.drawn source.new) result (stage node.old links.old (W.links wire.old) (W.failures wire.old) (F.told log.old.file) (F.synced log.old.file)) (stage node.new links.new (W.links wire.new) (W.failures wire.new) (F.told log.new.file) (F.synced log.new.file)) }
+    ensures went { Turns W.tells log.old.mode [] (S.drawn source.old) (S.drawn source.new) result
+        (stage node.old links.old (W.links wire.old) (W.failures wire.old) (F.told log.old.file)
+        (F.synced log.old.file))
+        (stage node.new links.new (W.links wire.new) (W.failures wire.new) (F.told log.new.file)
+        (F.synced log.new.file)) }
     ensures written { OnOk result (links.new.batch ≡ []) }
     ensures mode { log.new.mode ≡ log.old.mode }
     ensures device { IsErrOf result LoopFault.File → log.new.broken ≡ true }
-    ensures listener { IsErrOf result LoopFault.Listener → Rose (W.failures wire.old) (W.failures wire.new) }
+    ensures listener { IsErrOf result LoopFault.Listener →
+        Rose (W.failures wire.old) (W.failures wire.new) }
     ensures quiet { AllWait node.old → OnOk result (AllWait node.new) }
     ensures closed { OnOk result (NoneDone links.new.connections) }
     ensures file { IsErrOf result LoopFault.File → node.new.core.up ≡ false }
@@ -77,7 +82,12 @@ fn turn_at<W: Wire, F: LogFile, S: Source>(
     requires filed { own.old.batch ≡ [] }
     requires begun { moment.turn ≡ nothing_counted }
     requires up { node.old.core.up ≡ true }
-    ensures went { Turns W.tells log.old.mode (moment.fresh ∷ []) (S.drawn source.old) (S.drawn source.new) result (stage node.old own.old (W.links wire.old) (W.failures wire.old) (F.told log.old.file) (F.synced log.old.file)) (stage node.new own.new (W.links wire.new) (W.failures wire.new) (F.told log.new.file) (F.synced log.new.file)) }
+    ensures went { Turns W.tells log.old.mode (moment.fresh ∷ []) (S.drawn source.old)
+        (S.drawn source.new) result
+        (stage node.old own.old (W.links wire.old) (W.failures wire.old) (F.told log.old.file)
+        (F.synced log.old.file))
+        (stage node.new own.new (W.links wire.new) (W.failures wire.new) (F.told log.new.file)
+        (F.synced log.new.file)) }
     ensures written { OnOk result (own.new.batch ≡ []) }
     ensures mode { log.new.mode ≡ log.old.mode }
     ensures device { IsErrOf result LoopFault.File → log.new.broken ≡ true }
@@ -112,7 +122,7 @@ fn wait<W: Wire>(links: &Links, wire: &mut W) -> Result<(), Failed>
 
 /// Whether a turn met a limit: more may be due, accepted or read.
 fn is_limited(due: bool, accepts: bool, reads: bool) -> bool
-    ensures { due ≡ true → result ≡ true }
+    ensures { result ≡ ((due || accepts) || reads) }
 {
     due || accepts || reads
 }
@@ -133,7 +143,10 @@ impl<W: Wire, F: LogFile, S: Source> Host<'_, '_, W, F, S> {
     fn run(&mut self) -> Result<Turn, LoopFault>
         requires filed { self.old.own.now.batch ≡ [] }
         requires begun { self.old.moment.turn ≡ nothing_counted }
-        ensures went { Turns W.tells self.old.log.now.mode (self.old.moment.fresh ∷ []) (S.drawn self.old.source.now) (S.drawn self.new.source.now) result (stage_in W.links W.failures F.told F.synced self.old) (stage_in W.links W.failures F.told F.synced self.new) }
+        ensures went { Turns W.tells self.old.log.now.mode (self.old.moment.fresh ∷ [])
+            (S.drawn self.old.source.now) (S.drawn self.new.source.now) result
+            (stage_in W.links W.failures F.told F.synced self.old)
+            (stage_in W.links W.failures F.told F.synced self.new) }
         ensures written { OnOk result (self.new.own.now.batch ≡ []) }
         ensures same { IsSame W.waited self.old self.new }
         ensures device { IsErrOf result LoopFault.File → self.new.log.now.broken ≡ true }
@@ -141,7 +154,8 @@ impl<W: Wire, F: LogFile, S: Source> Host<'_, '_, W, F, S> {
         ensures closed { OnOk result (NoneDone self.new.own.now.connections) }
         ensures listener { IsErrOf result LoopFault.Listener → ⊥ }
         ensures down { OnErr result (self.new.node.now.core.up ≡ false) }
-        ensures up { self.old.node.now.core.up ≡ true → OnOk result (self.new.node.now.core.up ≡ true) }
+        ensures up { self.old.node.now.core.up ≡ true →
+            OnOk result (self.new.node.now.core.up ≡ true) }
     {
         match self.go_on() {
             Ok(told) => Ok(told),
@@ -156,13 +170,15 @@ impl<W: Wire, F: LogFile, S: Source> Host<'_, '_, W, F, S> {
     fn go_on(&mut self) -> Result<Turn, LoopFault>
         requires filed { self.old.own.now.batch ≡ [] }
         requires begun { self.old.moment.turn ≡ nothing_counted }
-        ensures went { GoesTelling W.tells W.links W.failures F.told F.synced S.drawn result self.old self.new }
+        ensures went { GoesTelling W.tells W.links W.failures F.told F.synced S.drawn result
+            self.old self.new }
         ensures written { OnOk result (self.new.own.now.batch ≡ []) }
         ensures same { IsSame W.waited self.old self.new }
         ensures device { IsErrOf result LoopFault.File → self.new.log.now.broken ≡ true }
         ensures quiet { AllWait self.old.node.now → OnOk result (AllWait self.new.node.now) }
         ensures closed { OnOk result (NoneDone self.new.own.now.connections) }
     {
+        let before = self.own.lacked();
         let accepts = self.accept_all()?;
         let reads = self.read_all()?;
         self.send_all()?;
@@ -170,13 +186,15 @@ impl<W: Wire, F: LogFile, S: Source> Host<'_, '_, W, F, S> {
         let due = self.tick_all()?;
         self.finish()?;
         self.own.set_hurries(is_limited(due, accepts, reads));
-        Ok(self.moment.turn().with_halted(self.own.halted()))
+        let lacked = self.own.lacked().since(before);
+        Ok(self.moment.turn().ended(self.own.halted(), lacked))
     }
 
     /// The end of a turn: what waits is appended and written, and each connection whose end the node has closed is closed where all
     /// is written.
     fn finish(&mut self) -> Result<(), LoopFault>
-        ensures went { GoesAs W.tells W.links W.failures F.told F.synced S.drawn result self.old self.new }
+        ensures went { GoesAs W.tells W.links W.failures F.told F.synced S.drawn result self.old
+            self.new }
         ensures written { OnOk result (self.new.own.now.batch ≡ []) }
         ensures closed { OnOk result (NoneDone self.new.own.now.connections) }
         ensures same { IsSame W.waited self.old self.new }
@@ -192,7 +210,8 @@ impl<W: Wire, F: LogFile, S: Source> Host<'_, '_, W, F, S> {
 
     /// Appends what waits for the file, and then writes what waits on the connections.
     fn send_all(&mut self) -> Result<(), LoopFault>
-        ensures went { GoesAs W.tells W.links W.failures F.told F.synced S.drawn result self.old self.new }
+        ensures went { GoesAs W.tells W.links W.failures F.told F.synced S.drawn result self.old
+            self.new }
         ensures written { OnOk result (self.new.own.now.batch ≡ []) }
         ensures same { IsSame W.waited self.old self.new }
         ensures moment { OnOk result (moment_in S.drawn self.new ≡ moment_in S.drawn self.old) }
@@ -207,7 +226,8 @@ impl<W: Wire, F: LogFile, S: Source> Host<'_, '_, W, F, S> {
 
     /// Serves each connection whose socket is ready. It answers whether one of them may have more to read.
     fn read_all(&mut self) -> Result<bool, LoopFault>
-        ensures went { GoesAs W.tells W.links W.failures F.told F.synced S.drawn result self.old self.new }
+        ensures went { ReadsAs W.tells W.links W.failures F.told F.synced S.drawn result self.old
+            self.new }
         ensures same { IsSame W.waited self.old self.new }
         ensures device { IsErrOf result LoopFault.File → self.new.log.now.broken ≡ true }
         ensures quiet { AllWait self.old.node.now → OnOk result (AllWait self.new.node.now) }
@@ -221,7 +241,8 @@ impl<W: Wire, F: LogFile, S: Source> Host<'_, '_, W, F, S> {
 
     /// Reads of each connection whose socket is ready, and steps as far as its bytes go. It answers whether more is left to read.
     fn read_each(&mut self, piece: &mut [u8]) -> Result<bool, LoopFault>
-        ensures went { GoesAs W.tells W.links W.failures F.told F.synced S.drawn result self.old self.new }
+        ensures went { ReadsAs W.tells W.links W.failures F.told F.synced S.drawn result self.old
+            self.new }
         ensures same { IsSame W.waited self.old self.new }
         ensures device { IsErrOf result LoopFault.File → self.new.log.now.broken ≡ true }
         ensures quiet { AllWait self.old.node.now → OnOk result (AllWait self.new.node.now) }
@@ -236,7 +257,8 @@ impl<W: Wire, F: LogFile, S: Source> Host<'_, '_, W, F, S> {
 
     /// Serves the connection that is ready there, and has what waits on it written next.
     fn read_at(&mut self, piece: &mut [u8], index: usize) -> Result<bool, LoopFault>
-        ensures went { GoesAs W.tells W.links W.failures F.told F.synced S.drawn result self.old self.new }
+        ensures went { ReadsAs W.tells W.links W.failures F.told F.synced S.drawn result self.old
+            self.new }
         ensures same { IsSame W.waited self.old self.new }
         ensures device { IsErrOf result LoopFault.File → self.new.log.now.broken ≡ true }
         ensures quiet { AllWait self.old.node.now → OnOk result (AllWait self.new.node.now) }
@@ -251,7 +273,8 @@ impl<W: Wire, F: LogFile, S: Source> Host<'_, '_, W, F, S> {
 
     /// Reads of a connection and steps, until nothing more is there. It answers whether it left off before that.
     fn read_connection(&mut self, piece: &mut [u8], socket: LinkId) -> Result<bool, LoopFault>
-        ensures went { GoesAs W.tells W.links W.failures F.told F.synced S.drawn result self.old self.new }
+        ensures went { GoesUpToAs W.tells W.links W.failures F.told F.synced S.drawn
+            (pieces_by socket) most_pieces result self.old self.new }
         ensures same { IsSame W.waited self.old self.new }
         ensures device { IsErrOf result LoopFault.File → self.new.log.now.broken ≡ true }
         ensures quiet { AllWait self.old.node.now → OnOk result (AllWait self.new.node.now) }

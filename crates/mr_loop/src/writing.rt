@@ -1,6 +1,6 @@
 // What is sent to peers.
 ghost use Rattle.std.specs.Prelude.{◌≡◌, [], false, true};
-ghost use Rattle.mr_rows.specs.LinkRows.{closed_at};
+ghost use Rattle.mr_node_spec.specs.LinkRows.{closed_at};
 ghost use Rattle.mr_connections.specs.State.{HasLink, NoneDone};
 ghost use Rattle.mr_links.specs.declared.link_id.LinkId.{LinkId};
 ghost use Rattle.mr_loop.specs.Writing.{IsWritten, WroteOn};
@@ -51,7 +51,9 @@ impl<W: Wire, F: LogFile, S: Source> Host<'_, '_, W, F, S> {
         ensures went { Goes W.tells W.links W.failures F.told F.synced S.drawn self.old self.new }
         ensures same { IsSame W.waited self.old self.new }
         ensures moment { moment_in S.drawn self.new ≡ moment_in S.drawn self.old }
-        ensures there { result ≡ true → (self.new.node.now ≡ self.old.node.now) × IsWritten W.tells (W.links self.new.wire.now) socket link self.new.own.now }
+        ensures there { result ≡ true →
+            (self.new.node.now ≡ self.old.node.now) ×
+            IsWritten W.tells (W.links self.new.wire.now) socket link self.new.own.now }
         ensures gone { result ≡ false → self.new.node.now ≡ closed_at link self.old.node.now }
     {
         loop {
@@ -71,7 +73,9 @@ impl<W: Wire, F: LogFile, S: Source> Host<'_, '_, W, F, S> {
         ensures batch { self.new.own.now.batch ≡ [] }
         ensures moment { moment_in S.drawn self.new ≡ moment_in S.drawn self.old }
         ensures core { self.new.node.now.core ≡ self.old.node.now.core }
-        ensures wrote { (link : LinkId) → HasLink self.old.own.now.connections socket link → WroteOn W.tells result (W.links self.new.wire.now) socket link self.old.node.now self.new.node.now self.old.own.now self.new.own.now }
+        ensures wrote { (link : LinkId) → HasLink self.old.own.now.connections socket link →
+            WroteOn W.tells result (W.links self.new.wire.now) socket link self.old.node.now
+            self.new.node.now self.old.own.now self.new.own.now }
         ensures quiet { AllWait self.old.node.now → AllWait self.new.node.now }
     {
         let Some(connection) = self.own.connection(socket) else {

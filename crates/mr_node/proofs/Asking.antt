@@ -1,15 +1,15 @@
 -- What is asked of the node, from how it is kept.
 use Rattle.std.proofs.Common.{◌≡◌, ℕ, ℤ, List, true, false, Some, refl, sym, ap, ◌∙◌}
-use Rattle.mr_ends.specs.declared.introduction.Introduction.{Introduction}
+use Rattle.mr_node_links.specs.Introductions.{Said}
 use Rattle.mr_cmd_node.specs.declared.node_ask.NodeAsk.{NodeAsk}
 use Rattle.mr_cmd_node.specs.declared.node_ask.NodeAsk.TheVariants as node
 use Rattle.mr_cmd_node.specs.declared.node_ask.ReplicaOption.{ReplicaOption}
-use Rattle.mr_outs.specs.Address.{AddressState}
-use Rattle.mr_outs.specs.Outs.{no_output}
-use Rattle.mr_room.specs.Answered.{done}
+use Rattle.mr_node_output.specs.Address.{AddressState}
+use Rattle.mr_node_output.specs.Outs.{no_output}
+use Rattle.mr_cmd_shared.specs.Answered.{done}
 use Rattle.mr_commands.specs.Transactions.{discard_alone, exec_alone}
-use Rattle.mr_rows.specs.State.{Core}
-use Rattle.mr_rows.specs.Served.{IsQuiet, not_chained, says}
+use Rattle.mr_node_spec.specs.State.{Core}
+use Rattle.mr_node_spec.specs.Served.{IsQuiet, not_chained, says}
 use Rattle.mr_node.specs.Parts.{Keeps}
 use Rattle.mr_node.specs.Reading.{IsWish, Wishes}
 use Rattle.mr_node.specs.declared.request.NodeRequest.TheVariants as request
@@ -19,7 +19,7 @@ pub of_stream : (wish : NodeAsk) (kept : StreamWish) → IsWish wish (request.St
 of_stream (node.Psync word wanted) kept h = ap (λ z. node.Psync z wanted) (sym h.0) ∙ ap (λ z. node.Psync kept.id.items z) (sym h.1)
 of_stream _ kept h = absurd h
 
-pub of_introduction : (wish : NodeAsk) (introduction : Introduction) → IsWish wish (request.Introduction introduction) → (told : List (ReplicaOption × List ℕ)) × (wish ≡ node.ReplConf told)
+pub of_introduction : (wish : NodeAsk) (introduction : Said) → IsWish wish (request.Introduction introduction) → (told : List (ReplicaOption × List ℕ)) × (wish ≡ node.ReplConf told)
 of_introduction (node.ReplConf told) introduction h = (told, refl)
 of_introduction _ introduction h = absurd h
 

@@ -8,16 +8,16 @@ use Rattle.std.proofs.lemmas.Map.Views.{tells_apart}
 use Rattle.mr_links.specs.LinkId.{id_cmp}
 use Rattle.mr_links.specs.declared.link_id.LinkId.{LinkId}
 use Rattle.mr_links.proofs.LinkRows.{ids_total, exact_ids}
-use Rattle.mr_ends.specs.State.{EndState, Transaction, put_end, transaction_in, unread_in}
-use Rattle.mr_ends.specs.State.EndState.{client, waiting, replica, upstream, shut}
-use Rattle.mr_ends.specs.Ending.{kind_of, used_of}
-use Rattle.mr_ends.specs.declared.kind.Kind.{Kind}
-use Rattle.mr_ends.specs.declared.kind.Kind.TheVariants as kind
-use Rattle.mr_ends.specs.Parts.{HasAhead, HasOpen, IsClient, TakesOut, UsesAt}
-use Rattle.mr_ends.specs.Replicas.{Lists}
-use Rattle.mr_rows.specs.State.{IsNode, NodeState, end_of, Agrees, AgreesWithin, ReplicaAgrees}
-use Rattle.mr_rows.specs.Ends.{Leaves}
-use Rattle.mr_state.specs.Parts.{OnlyEnds, with_ends}
+use Rattle.mr_node_links.specs.State.{EndState, Transaction, put_end, transaction_in, unread_in}
+use Rattle.mr_node_links.specs.State.EndState.{client, waiting, replica, upstream, shut}
+use Rattle.mr_node_links.specs.Ending.{kind_of, used_of}
+use Rattle.mr_node_links.specs.declared.kind.Kind.{Kind}
+use Rattle.mr_node_links.specs.declared.kind.Kind.TheVariants as kind
+use Rattle.mr_node_links.specs.Parts.{HasAhead, HasOpen, IsClient, TakesOut, UsesAt}
+use Rattle.mr_node_links.specs.Replicas.{Lists}
+use Rattle.mr_node_spec.specs.State.{IsNode, NodeState, end_of, Agrees, AgreesWithin, ReplicaAgrees}
+use Rattle.mr_node_spec.specs.Ends.{Leaves}
+use Rattle.mr_node_state.specs.Parts.{OnlyEnds, with_ends}
 use Rattle.mr_node.specs.Calls.{Agreeing, Unreads}
 use Rattle.mr_node.specs.Parts.{Uses}
 

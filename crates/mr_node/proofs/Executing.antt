@@ -11,9 +11,9 @@ use Rattle.mr_resp.specs.Replies.{Tree, array, count_of, replies_text, reply_tex
 use Rattle.mr_resp.specs.Request.{IsRequest}
 use Rattle.mr_resp.specs.Spelling.{number_line}
 use Rattle.mr_resp.specs.Usual.{usual}
-use Rattle.mr_entries.specs.Dataset.{Dataset}
+use Rattle.mr_keyspace.specs.Dataset.{Dataset}
 use Rattle.mr_effect.specs.Spelling.{text, texts}
-use Rattle.mr_entries.specs.Changes.{NeedsNoMemory}
+use Rattle.mr_keyspace.specs.Changes.{NeedsNoMemory}
 use Rattle.mr_effect.specs.declared.effect.Effect.{Effect}
 use Rattle.mr_data.specs.declared.given.Given.{Given}
 use Rattle.mr_data.specs.Meaning.{apply_all}
@@ -23,21 +23,21 @@ use Rattle.mr_groups.proofs.Lengths.{as_many, grown_length}
 use Rattle.mr_repl.specs.Lineage.{grown}
 use Rattle.mr_cmd_server.specs.declared.question.Question.{Question}
 use Rattle.mr_cmd_server.specs.declared.question.Question.TheVariants as question
-use Rattle.mr_ends.specs.State.{EndState, Transaction, put_end, streams}
-use Rattle.mr_ends.specs.State.EndState.{client, waiting}
-use Rattle.mr_ends.specs.Replicas.{Lists}
-use Rattle.mr_ends.proofs.Naming.{put_lists}
-use Rattle.mr_ends.proofs.Places.{get_put, put_put, put_same}
+use Rattle.mr_node_links.specs.State.{EndState, Transaction, put_end, streams}
+use Rattle.mr_node_links.specs.State.EndState.{client, waiting}
+use Rattle.mr_node_links.specs.Replicas.{Lists}
+use Rattle.mr_node_links.proofs.Naming.{put_lists}
+use Rattle.mr_node_links.proofs.Places.{get_put, put_put, put_same}
 use Rattle.mr_commands.specs.Requests.{HasPlan, IsPlain, left}
 use Rattle.mr_commands.specs.Transactions.{Does, DoesAll, FirstTakesMemory, coming, ends, past_limit}
 use Rattle.mr_commands.specs.declared.transactions.Within.TheVariants as within
 use Rattle.mr_commands.proofs.Doing.{do_nothing, do_so, does_more, has_so, have_none, one_more, replied}
-use Rattle.mr_outs.specs.Outs.{OutsState, no_outs}
-use Rattle.mr_rows.specs.State.{Core, NodeState, end_of, spent_as, stopped_as}
-use Rattle.mr_rows.specs.Growing.{FedTo}
-use Rattle.mr_rows.specs.Telling.{Around, IsAround, answer_about, link_of, role_answer}
-use Rattle.mr_rows.specs.Transactions.{WithinRow, as_trees, frame_of}
-use Rattle.mr_state.specs.Parts.{Holds, Spends, streams_on, with_ends}
+use Rattle.mr_node_output.specs.Outs.{OutsState, no_outs}
+use Rattle.mr_node_spec.specs.State.{Core, NodeState, end_of, spent_as, stopped_as}
+use Rattle.mr_node_spec.specs.Growing.{FedTo}
+use Rattle.mr_node_spec.specs.Telling.{Around, IsAround, answer_about, link_of, role_answer}
+use Rattle.mr_node_spec.specs.Transactions.{WithinRow, as_trees, frame_of}
+use Rattle.mr_node_state.specs.Parts.{Holds, Spends, streams_on, with_ends}
 use Rattle.mr_node.specs.Executing.{AreDone, ClosesGroup, CountsDone, DidAll, DidOne, DoesEach, DoesOne, Executed, Executes, FedBy, GivesUp, IsTold, SaysOnly, SpentBy, StoppedWithin, holding, put_out}
 use Rattle.mr_node.specs.Parts.{TellsOf, Uses}
 use Rattle.mr_node.specs.Within.{Comes, IsAtOpen, StopsAtOpen, WithinStep}

@@ -2,17 +2,17 @@
 use Rattle.std.proofs.Common.{◌≡◌, ℕ, List, true, Some, sym, ap, ◌∙◌}
 use Rattle.std.specs.Prelude.{Result, Ok, Err}
 use Rattle.mr_links.specs.declared.link_id.LinkId.{LinkId}
-use Rattle.mr_entries.specs.Dataset.{Dataset}
-use Rattle.mr_course.specs.State.{CourseState, name_of}
-use Rattle.mr_course.specs.Rows.{Listens}
-use Rattle.mr_course.specs.declared.upstream.UpstreamStep.{UpstreamStep}
-use Rattle.mr_course.specs.declared.upstream.UpstreamStep.TheVariants as outcome
-use Rattle.mr_course.specs.declared.upstream.UpstreamFault.{UpstreamFault}
-use Rattle.mr_course.specs.declared.upstream.UpstreamFault.TheVariants as fault
-use Rattle.mr_outs.specs.Outs.{OutsState}
-use Rattle.mr_rows.specs.State.{NodeState, course_of}
-use Rattle.mr_rows.specs.UpstreamRows.{Hears, Lacks, Spends, Waits, ends_behind, node_behind, outs_behind}
-use Rattle.mr_state.specs.Listening.{Heard}
+use Rattle.mr_keyspace.specs.Dataset.{Dataset}
+use Rattle.mr_replication.specs.State.{CourseState, name_of}
+use Rattle.mr_replication.specs.Rows.{Listens}
+use Rattle.mr_replication.specs.declared.upstream.UpstreamStep.{UpstreamStep}
+use Rattle.mr_replication.specs.declared.upstream.UpstreamStep.TheVariants as outcome
+use Rattle.mr_replication.specs.declared.upstream.UpstreamFault.{UpstreamFault}
+use Rattle.mr_replication.specs.declared.upstream.UpstreamFault.TheVariants as fault
+use Rattle.mr_node_output.specs.Outs.{OutsState}
+use Rattle.mr_node_spec.specs.State.{NodeState, course_of}
+use Rattle.mr_node_spec.specs.UpstreamRows.{Hears, Lacks, Spends, Waits, ends_behind, node_behind, outs_behind}
+use Rattle.mr_node_state.specs.Listening.{Heard}
 use Rattle.mr_node.proofs.Ends.{some_is}
 
 module _ (a b : NodeState) (l : LinkId) (told : List ℕ) (followed : name_of a.follow ≡ Some l) where

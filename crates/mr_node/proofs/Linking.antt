@@ -7,18 +7,18 @@ use Rattle.std.proofs.lemmas.Fmt.{decimal_digit}
 use Rattle.mr_links.specs.declared.link_id.LinkId.{LinkId}
 use Rattle.mr_resp.specs.Spelling.{line_end}
 use Rattle.mr_effect.specs.Spelling.{words}
-use Rattle.mr_follow.specs.Handshake.{ping_line}
-use Rattle.mr_follow.specs.State.{FedIsUnread, FollowState, heard}
-use Rattle.mr_course.specs.State.{hears_more}
-use Rattle.mr_ends.specs.State.{EndState, Transaction, full, put_end, serves, unread_in}
-use Rattle.mr_ends.specs.State.EndState.{client, waiting, replica, shut, upstream}
-use Rattle.mr_ends.specs.Ending.{IsRoom, heard_of, kind_of}
-use Rattle.mr_ends.specs.declared.kind.Kind.TheVariants as kind
-use Rattle.mr_outs.specs.Outs.{OutsState, no_outs}
-use Rattle.mr_rows.specs.State.{FollowedAt, IsNode, IsTooMuch, MasterAgrees, NodeState, end_of}
-use Rattle.mr_rows.specs.LinkRows.{Dials, Feeds}
-use Rattle.mr_rows.specs.UpstreamRows.{beat}
-use Rattle.mr_state.specs.Parts.{dialled_as, fed_as, with_ends}
+use Rattle.mr_follower.specs.Handshake.{ping_line}
+use Rattle.mr_follower.specs.State.{FedIsUnread, FollowState, heard}
+use Rattle.mr_replication.specs.State.{hears_more}
+use Rattle.mr_node_links.specs.State.{EndState, Transaction, full, put_end, serves, unread_in}
+use Rattle.mr_node_links.specs.State.EndState.{client, waiting, replica, shut, upstream}
+use Rattle.mr_node_links.specs.Ending.{IsRoom, heard_of, kind_of}
+use Rattle.mr_node_links.specs.declared.kind.Kind.TheVariants as kind
+use Rattle.mr_node_output.specs.Outs.{OutsState, no_outs}
+use Rattle.mr_node_spec.specs.State.{FollowedAt, IsNode, IsTooMuch, MasterAgrees, NodeState, end_of}
+use Rattle.mr_node_spec.specs.LinkRows.{Dials, Feeds}
+use Rattle.mr_node_spec.specs.UpstreamRows.{beat}
+use Rattle.mr_node_state.specs.Parts.{dialled_as, fed_as, with_ends}
 use Rattle.mr_node.specs.Calls.{FitsMore, IsClients}
 use Rattle.mr_node.proofs.Ends.{one_end, one_open, one_replica, put_leaves, some_is}
 

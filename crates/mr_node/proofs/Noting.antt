@@ -4,11 +4,11 @@ use Rattle.mr_links.specs.declared.link_id.LinkId.{LinkId}
 use Rattle.mr_resp.specs.Scans.{BeginsWithRequest}
 use Rattle.mr_resp.specs.Usual.{usual}
 use Rattle.mr_cmd_node.specs.declared.node_ask.NodeAsk.TheVariants as node
-use Rattle.mr_ends.specs.State.EndState.{replica, shut}
-use Rattle.mr_outs.specs.Outs.{no_outs}
-use Rattle.mr_rows.specs.State.{NodeState}
-use Rattle.mr_rows.specs.Ends.{Leaves}
-use Rattle.mr_rows.specs.ReplicaRows.{IsExpected, IsUnwanted, ReplicaRow}
+use Rattle.mr_node_links.specs.State.EndState.{replica, shut}
+use Rattle.mr_node_output.specs.Outs.{no_outs}
+use Rattle.mr_node_spec.specs.State.{NodeState}
+use Rattle.mr_node_spec.specs.Ends.{Leaves}
+use Rattle.mr_node_spec.specs.ReplicaRows.{IsExpected, IsUnwanted, ReplicaRow}
 use Rattle.mr_node.specs.Noting.{BeginsWithWords}
 use Rattle.mr_node.specs.Parts.{Uses}
 use Rattle.mr_node.specs.Reading.{Passes, Wishes}

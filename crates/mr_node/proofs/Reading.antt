@@ -23,8 +23,8 @@ use Rattle.mr_resp.specs.declared.request.Scan.{Scan}
 use Rattle.mr_resp.specs.declared.request.Scan.TheVariants as scan
 use Rattle.std.specs.declared.borrow.CowSlice.{CowSlice}
 use Rattle.mr_resp.proofs.OneAnswer.{not_empty, same_requests, text_wants_no_more}
-use Rattle.mr_ends.specs.State.{CanWait}
-use Rattle.mr_entries.specs.Dataset.{Dataset}
+use Rattle.mr_node_links.specs.State.{CanWait}
+use Rattle.mr_keyspace.specs.Dataset.{Dataset}
 use Rattle.mr_data.specs.declared.given.Given.{Given}
 use Rattle.mr_data.specs.declared.plan.Plan.{Plan}
 use Rattle.mr_cmd_server.specs.declared.question.Question.{Question}
@@ -37,10 +37,10 @@ use Rattle.mr_commands.specs.Requests.{HasPlan, HasTexts, IsPlain, IsAnswerTo, I
 use Rattle.mr_commands.proofs.Questions.{halting_asks_nothing, quit_asks_nothing, rewriting_asks_nothing}
 use Rattle.mr_commands.specs.declared.requests.Answer.{Answer}
 use Rattle.mr_commands.specs.declared.requests.Answer.TheVariants as answer
-use Rattle.mr_ends.specs.Progresses.{AgreesAlong}
-use Rattle.mr_rows.specs.ClientRows.{MayLack}
-use Rattle.mr_rows.specs.Requests.{Asks}
-use Rattle.mr_rows.specs.State.{NodeState}
+use Rattle.mr_node_links.specs.Progresses.{AgreesAlong}
+use Rattle.mr_node_spec.specs.ClientRows.{MayLack}
+use Rattle.mr_node_spec.specs.Requests.{Asks}
+use Rattle.mr_node_spec.specs.State.{NodeState}
 use Rattle.mr_node.specs.Executing.{IsTold, IsWaited, MayNotWait}
 use Rattle.mr_node.specs.declared.waited.Waited.{Waited}
 use Rattle.mr_node.specs.declared.waited.Waited.TheVariants as waited

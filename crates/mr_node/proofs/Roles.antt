@@ -1,28 +1,30 @@
 -- A change of roles, from what becomes of the ends.
-use Rattle.std.proofs.Common.{◌≡◌, ◌≢◌, ◌<◌, ℕ, ℤ, List, [], true, false, cond, drop, Option, None, Some, refl, sym, ap, ◌∙◌}
-use Rattle.std.specs.FinMap.{get, get-remove}
+use Rattle.std.proofs.Common.{◌≡◌, ◌≢◌, ◌<◌, ℕ, ℤ, List, Bool, true, false, cond, drop, Option, None, Some, refl, sym, ap, ◌∙◌}
+use Rattle.std.specs.Ordering.{eq_by_cmp}
+use Rattle.std.specs.FinMap.{get, get-insert}
+use Rattle.mr_links.specs.LinkId.{id_cmp}
 use Rattle.mr_links.specs.Links.{Links}
 use Rattle.mr_links.specs.declared.link_id.LinkId.{LinkId}
 use Rattle.mr_links.proofs.LinkRows.{ids_total}
 use Rattle.mr_resp.specs.Replies.{reply_text}
-use Rattle.mr_room.specs.Answered.{done}
+use Rattle.mr_cmd_shared.specs.Answered.{done}
 use Rattle.mr_cmd_node.specs.declared.node_ask.NodeAsk.TheVariants as node
 use Rattle.mr_data.specs.declared.given.Given.{Given}
 use Rattle.mr_repl.specs.Lineage.{renamed}
-use Rattle.mr_follow.specs.State.{FollowState}
-use Rattle.mr_course.specs.State.{name_of}
-use Rattle.mr_ends.specs.State.{EndState, end_at, streams}
-use Rattle.mr_ends.specs.State.EndState.{client, waiting, replica, upstream, shut}
-use Rattle.mr_ends.specs.Parts.{TurnsAt}
-use Rattle.mr_ends.specs.Replicas.{Lists, ShutsReplicas, shut_where}
-use Rattle.mr_ends.proofs.Naming.{at_or_other}
-use Rattle.mr_outs.specs.Address.{AddressState}
-use Rattle.mr_outs.specs.Outs.{no_outs}
-use Rattle.mr_rows.specs.State.{Core, NodeState, Agrees, FollowedAt, IsNode, end_of}
-use Rattle.mr_rows.specs.Sound.{ports}
-use Rattle.mr_rows.specs.Ends.{Leaves, Settles, names_of}
-use Rattle.mr_rows.specs.ClientRows.{ClientRow, IsAnswerToPsync}
-use Rattle.mr_state.specs.Parts.{Obeys, OnlyEnds, promoted_as, turned_to, with_ends, without_one}
+use Rattle.mr_follower.specs.State.{FollowState}
+use Rattle.mr_replication.specs.State.{name_of}
+use Rattle.mr_node_links.specs.State.{EndState, end_at, streams}
+use Rattle.mr_node_links.specs.State.EndState.{client, waiting, replica, upstream, shut}
+use Rattle.mr_node_links.specs.Parts.{TurnsAt}
+use Rattle.mr_node_links.specs.Replicas.{Lists, ShutsReplicas, is_named, shut_where}
+use Rattle.mr_node_links.proofs.Naming.{at_or_other}
+use Rattle.mr_node_output.specs.Address.{AddressState}
+use Rattle.mr_node_output.specs.Outs.{no_outs}
+use Rattle.mr_node_spec.specs.State.{Core, NodeState, Agrees, FollowedAt, IsNode, end_of}
+use Rattle.mr_node_spec.specs.Sound.{ports}
+use Rattle.mr_node_spec.specs.Ends.{Leaves, Settles, names_of}
+use Rattle.mr_node_spec.specs.ClientRows.{ClientRow, IsAnswerToPsync}
+use Rattle.mr_node_state.specs.Parts.{Obeys, OnlyEnds, promoted_as, shut_one, turned_to, with_ends}
 use Rattle.mr_node.specs.Parts.{Uses}
 use Rattle.mr_node.specs.Reading.{Wishes}
 use Rattle.mr_node.specs.Steps.{IsAt}
@@ -31,16 +33,28 @@ use Rattle.mr_node.proofs.Ends.{none_some, put_leaves, some_is}
 no_true : false ≡ true → ⊥
 no_true e = cc
 
--- ---- the end of the link to the master goes
-left_end : (name : Option LinkId) (m : Links EndState) (x : LinkId) → (name ≡ Some x → ⊥) → end_at (without_one name m) x ≡ end_at m x
+-- ---- the end of the link to the master is closed
+left_end : (name : Option LinkId) (m : Links EndState) (x : LinkId) → is_named (names_of name) x ≡ false → end_at (shut_one name m) x ≡ end_at m x
 left_end None m x other = refl
-left_end (Some g) m x other = get-remove ids_total m.open_links g x ∙ at_or_other x g (λ b. cond b None (get m.open_links x) ≡ get m.open_links x) (λ is. absurd (other (ap Some (sym is)))) (λ ne. refl)
+left_end (Some g) m x other = get-insert ids_total m.open_links g shut x ∙ by_name (eq_by_cmp id_cmp x g) other
+  where
+    by_name : (b : Bool) → cond b true false ≡ false → cond b (Some shut) (get m.open_links x) ≡ get m.open_links x
+    by_name true e = absurd (no_true (sym e))
+    by_name false e = refl
 
-gone_end : (name : Option LinkId) (m : Links EndState) (x : LinkId) → name ≡ Some x → end_at (without_one name m) x ≡ None
-gone_end None m x is = absurd (none_some x is)
-gone_end (Some g) m x is = get-remove ids_total m.open_links g x ∙ at_or_other x g (λ b. cond b None (get m.open_links x) ≡ None) (λ same. refl) (λ ne. absurd (ne (sym (some_is g x is))))
+closed_end : (name : Option LinkId) (m : Links EndState) (x : LinkId) → is_named (names_of name) x ≡ true → end_at (shut_one name m) x ≡ Some shut
+closed_end None m x named = absurd (no_true named)
+closed_end (Some g) m x named = get-insert ids_total m.open_links g shut x ∙ by_name (eq_by_cmp id_cmp x g) named
+  where
+    by_name : (b : Bool) → cond b true false ≡ true → cond b (Some shut) (get m.open_links x) ≡ Some shut
+    by_name true e = refl
+    by_name false e = absurd (no_true e)
 
-opened_as_before : (name : Option LinkId) (m : Links EndState) → (without_one name m).opened ≡ m.opened
+other_name : (name : Option LinkId) (x : LinkId) → (name ≡ Some x → ⊥) → is_named (names_of name) x ≡ false
+other_name None x other = refl
+other_name (Some g) x other = at_or_other x g (λ b. cond b true false ≡ false) (λ same. absurd (other (ap Some (sym same)))) (λ ne. refl)
+
+opened_as_before : (name : Option LinkId) (m : Links EndState) → (shut_one name m).opened ≡ m.opened
 opened_as_before None m = refl
 opened_as_before (Some g) m = refl
 
@@ -55,15 +69,14 @@ not_followed a l u is_node at is = no_client (sym at.is ∙ followed_end a.ends 
     no_client : ◌≡◌ {A = Option EndState} (Some (client u)) (Some upstream) → ⊥
     no_client e = cc
 
-settles_alone : (a mid b : NodeState) (l : LinkId) (u rest : List ℕ) → IsNode a → Agrees a l u → Leaves a l mid (client rest) → b.ends ≡ without_one (name_of mid.follow) mid.ends
-    → Settles a l b (client rest) [] (name_of a.follow)
+settles_alone : (a mid b : NodeState) (l : LinkId) (u rest : List ℕ) → IsNode a → Agrees a l u → Leaves a l mid (client rest) → b.ends ≡ shut_one (name_of mid.follow) mid.ends
+    → Settles a l b (client rest) (names_of (name_of a.follow))
 settles_alone a mid b l u rest is_node at leaves is =
-    let ends : b.ends ≡ without_one (name_of a.follow) mid.ends = is ∙ ap (λ (f : Option (LinkId × FollowState)). without_one (name_of f) mid.ends) leaves.follow in
+    let ends : b.ends ≡ shut_one (name_of a.follow) mid.ends = is ∙ ap (λ (f : Option (LinkId × FollowState)). shut_one (name_of f) mid.ends) leaves.follow in
     record {
-      is = ap (λ z. end_at z l) ends ∙ (left_end (name_of a.follow) mid.ends l (not_followed a l u is_node at) ∙ leaves.is);
-      shuts = λ x named. absurd (no_true named);
-      none = λ x gone. ap (λ z. end_at z x) ends ∙ gone_end (name_of a.follow) mid.ends x gone;
-      others = λ x ne named other. ap (λ z. end_at z x) ends ∙ (left_end (name_of a.follow) mid.ends x other ∙ leaves.others.stay x ne);
+      is = ap (λ z. end_at z l) ends ∙ (left_end (name_of a.follow) mid.ends l (other_name (name_of a.follow) l (not_followed a l u is_node at)) ∙ leaves.is);
+      shuts = λ x named. ap (λ z. end_at z x) ends ∙ closed_end (name_of a.follow) mid.ends x named;
+      others = λ x ne named. ap (λ z. end_at z x) ends ∙ (left_end (name_of a.follow) mid.ends x named ∙ leaves.others.stay x ne);
       opened = ap (λ (z : Links EndState). z.opened) ends ∙ (opened_as_before (name_of a.follow) mid.ends ∙ leaves.others.opened);
     }
 
@@ -126,15 +139,14 @@ streaming_is_shut (Some upstream) e = absurd (no_true e)
 streaming_is_shut (Some shut) e = absurd (no_true e)
 
 settles_obeying : (a mid b : NodeState) (l : LinkId) (u rest : List ℕ) (names : List LinkId) → Agrees a l u → Leaves a l mid (client rest) → ShutsReplicas mid.ends b.ends → Lists names a.ends.open_links
-    → Settles a l b (client rest) names None
+    → Settles a l b (client rest) names
 settles_obeying a mid b l u rest names at leaves shuts listed = record {
   is = shuts.each l ∙ (ap (λ o. shut_where (streams o) o) leaves.is);
   shuts = λ x named.
       let goes : streams (end_of a x) ≡ true = sym (listed.each x) ∙ named in
       let other : x ≢ l = λ is. no_true (sym (ap streams (ap (end_of a) is ∙ at.is)) ∙ goes) in
       shuts.each x ∙ (ap (λ o. shut_where (streams o) o) (leaves.others.stay x other) ∙ streaming_is_shut (end_of a x) goes);
-  none = λ x gone. absurd (none_some x gone);
-  others = λ x ne named other.
+  others = λ x ne named.
       shuts.each x ∙ (ap (λ o. shut_where (streams o) o) (leaves.others.stay x ne) ∙ quiet_stays (end_of a x) (sym (listed.each x) ∙ named));
   opened = shuts.opened ∙ leaves.others.opened;
 }

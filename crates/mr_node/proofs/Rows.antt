@@ -9,28 +9,28 @@ use Rattle.mr_resp.specs.Replies.{error, reply_text}
 use Rattle.mr_resp.specs.Faults.{fault_text}
 use Rattle.mr_resp.specs.ReplyView.{view}
 use Rattle.mr_resp.specs.declared.fault.Fault.{Fault}
-use Rattle.mr_entries.specs.Dataset.{Dataset}
+use Rattle.mr_keyspace.specs.Dataset.{Dataset}
 use Rattle.mr_effect.specs.Spelling.{texts, IsShort}
-use Rattle.mr_entries.specs.Changes.{NeedsNoMemory}
+use Rattle.mr_keyspace.specs.Changes.{NeedsNoMemory}
 use Rattle.mr_data.specs.Meaning.{apply_all}
 use Rattle.mr_data.specs.Rebuilding.{rebuilding}
 use Rattle.mr_data.specs.declared.given.Given.{Given}
 use Rattle.mr_data.specs.declared.plan.Plan.{Plan}
 use Rattle.mr_repl.specs.Backlog.{offset_limit}
 use Rattle.mr_cmd_server.specs.declared.question.Question.{Question}
-use Rattle.mr_room.specs.Answered.{done}
-use Rattle.mr_room.proofs.Laws.{command_texts}
+use Rattle.mr_cmd_shared.specs.Answered.{done}
+use Rattle.mr_cmd_shared.proofs.Laws.{command_texts}
 use Rattle.mr_info.specs.declared.roles.Replica.{Replica}
-use Rattle.mr_ends.specs.State.EndState.{client, shut}
-use Rattle.mr_ends.specs.Replicas.{Lists}
-use Rattle.mr_outs.specs.Outs.{Output, no_outs, no_output, growth, outs_with}
-use Rattle.mr_rows.specs.State.{NodeState, end_of}
-use Rattle.mr_rows.specs.Requests.{IsDoomedBy}
-use Rattle.mr_rows.specs.Growing.{FedTo, Remakes, grown_by, offset_behind, limit_text}
-use Rattle.mr_rows.specs.Ends.{Leaves}
-use Rattle.mr_rows.specs.Telling.{Around, IsAround, link_of, reply_about}
-use Rattle.mr_rows.specs.Served.{Answered, Served, left_of, rewritten_as, says}
-use Rattle.mr_rows.specs.ClientRows.{ClientRow, Closes, Ends, MayLack, Stops}
+use Rattle.mr_node_links.specs.State.EndState.{client, shut}
+use Rattle.mr_node_links.specs.Replicas.{Lists}
+use Rattle.mr_node_output.specs.Outs.{Output, no_outs, no_output, growth, outs_with}
+use Rattle.mr_node_spec.specs.State.{NodeState, end_of}
+use Rattle.mr_node_spec.specs.Requests.{IsDoomedBy}
+use Rattle.mr_node_spec.specs.Growing.{FedTo, Remakes, grown_by, offset_behind, limit_text}
+use Rattle.mr_node_spec.specs.Ends.{Leaves}
+use Rattle.mr_node_spec.specs.Telling.{Around, IsAround, link_of, reply_about}
+use Rattle.mr_node_spec.specs.Served.{Answered, Served, left_of, rewritten_as, says}
+use Rattle.mr_node_spec.specs.ClientRows.{ClientRow, Closes, Ends, MayLack, Stops}
 use Rattle.mr_node.specs.Reading.{HaltsAt, Passes, Questions, Quits, Reads, Rewrites, Runs}
 use Rattle.mr_node.specs.Parts.{Keeps, Uses}
 use Rattle.mr_node.specs.Steps.{IsAt}

@@ -13,10 +13,10 @@ use Rattle.mr_info.specs.declared.roles.MasterLink.{MasterLink}
 use Rattle.mr_info.specs.declared.roles.Replica.{Replica}
 use Rattle.mr_cmd_server.specs.declared.question.Question.{Question}
 use Rattle.mr_cmd_server.specs.declared.question.Question.TheVariants as asked
-use Rattle.mr_ends.specs.Replicas.{Lists}
-use Rattle.mr_outs.specs.Address.{AddressState}
-use Rattle.mr_rows.specs.State.{NodeState}
-use Rattle.mr_rows.specs.Telling.{answer_about, host_of, link_of, port_of, role_answer}
+use Rattle.mr_node_links.specs.Replicas.{Lists}
+use Rattle.mr_node_output.specs.Address.{AddressState}
+use Rattle.mr_node_spec.specs.State.{NodeState}
+use Rattle.mr_node_spec.specs.Telling.{answer_about, host_of, link_of, port_of, role_answer}
 use Rattle.mr_node.specs.Parts.{ListsReplicas, TellsInfo, TellsOf}
 use Rattle.mr_node.proofs.Rows.{around_of, is_around_of, nobody}
 

@@ -16,19 +16,19 @@ use Rattle.mr_bytes.specs.Words.{fits}
 use Rattle.mr_effect.specs.Spelling.{text, texts, size}
 use Rattle.mr_effect.specs.declared.effect.Effect.{Effect}
 use Rattle.mr_effect.specs.declared.effect.Effect.TheVariants as effect
-use Rattle.mr_entries.specs.Dataset.{Dataset}
-use Rattle.mr_entries.specs.Changes.{change, NeedsNoMemory}
+use Rattle.mr_keyspace.specs.Dataset.{Dataset}
+use Rattle.mr_keyspace.specs.Changes.{change, NeedsNoMemory}
 use Rattle.mr_data.specs.Meaning.{apply, apply_all}
 use Rattle.mr_data.specs.declared.due.DueKey.{DueKey}
 use Rattle.mr_data.specs.Due.{due, deletions, most_deleted, shown, HasWord, within}
 use Rattle.mr_repl.specs.Backlog.{offset_limit}
-use Rattle.mr_ends.specs.Replicas.{Lists, is_named}
-use Rattle.mr_outs.specs.Outs.{OutsState, no_outs}
-use Rattle.mr_rows.specs.State.{NodeState}
-use Rattle.mr_rows.specs.Growing.{FedTo, grown_by}
-use Rattle.mr_rows.specs.TimeRows.{Beats, HasReplicas, TickRow, room_in}
-use Rattle.mr_rows.specs.TimeRows as time
-use Rattle.mr_state.specs.Parts.{Commits}
+use Rattle.mr_node_links.specs.Replicas.{Lists, is_named}
+use Rattle.mr_node_output.specs.Outs.{OutsState, no_outs}
+use Rattle.mr_node_spec.specs.State.{NodeState}
+use Rattle.mr_node_spec.specs.Growing.{FedTo, grown_by}
+use Rattle.mr_node_spec.specs.TimeRows.{Beats, HasReplicas, TickRow, room_in}
+use Rattle.mr_node_spec.specs.TimeRows as time
+use Rattle.mr_node_state.specs.Parts.{Commits}
 use Rattle.mr_node.specs.Parts.{FeedsAll}
 use Rattle.mr_node.specs.Ticking.{Doomed, Fitting, IsLight, PutsBeats, SinceBeat, marked}
 use Rattle.mr_node.specs.declared.node.ticking.Beats.{Beats as Told}

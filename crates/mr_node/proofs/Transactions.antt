@@ -9,20 +9,20 @@ use Rattle.mr_resp.specs.Request.{IsRequest}
 use Rattle.mr_resp.specs.Usual.{usual}
 use Rattle.mr_data.specs.declared.given.Given.{Given}
 use Rattle.mr_cmd_node.specs.declared.node_ask.NodeAsk.TheVariants as node
-use Rattle.mr_room.specs.Answered.{done}
+use Rattle.mr_cmd_shared.specs.Answered.{done}
 use Rattle.mr_commands.proofs.Comings.{by_quit}
 use Rattle.mr_commands.specs.Transactions.{Coming, waits, marks, nests, drops, ends, quits as leaves, coming, queued, nested, aborted, IsWithin}
 use Rattle.mr_commands.specs.declared.transactions.Within.{Within}
 use Rattle.mr_commands.specs.declared.transactions.Within.TheVariants as within
-use Rattle.mr_ends.specs.State.{CanWait, Transaction, as_marked, begun, put_end, with_text}
-use Rattle.mr_ends.specs.State.EndState.{client, waiting}
-use Rattle.mr_outs.specs.Outs.{no_outs}
-use Rattle.mr_rows.specs.State.{Core, NodeState, end_of}
-use Rattle.mr_rows.specs.Ends.{Leaves}
-use Rattle.mr_rows.specs.Requests.{Asks}
-use Rattle.mr_rows.specs.ClientRows.{ClientRow, MayLack}
-use Rattle.mr_rows.specs.Transactions.{DropsBy, StandsBy, WithinRow, only_says}
-use Rattle.mr_state.specs.Parts.{with_ends}
+use Rattle.mr_node_links.specs.State.{CanWait, Transaction, as_marked, begun, put_end, with_text}
+use Rattle.mr_node_links.specs.State.EndState.{client, waiting}
+use Rattle.mr_node_output.specs.Outs.{no_outs}
+use Rattle.mr_node_spec.specs.State.{Core, NodeState, end_of}
+use Rattle.mr_node_spec.specs.Ends.{Leaves}
+use Rattle.mr_node_spec.specs.Requests.{Asks}
+use Rattle.mr_node_spec.specs.ClientRows.{ClientRow, MayLack}
+use Rattle.mr_node_spec.specs.Transactions.{DropsBy, StandsBy, WithinRow, only_says}
+use Rattle.mr_node_state.specs.Parts.{with_ends}
 use Rattle.mr_node.specs.Parts.{Uses}
 use Rattle.mr_node.specs.Reading.{Passes, Quits, Reads, Wishes}
 use Rattle.mr_node.specs.Steps.{IsAt}

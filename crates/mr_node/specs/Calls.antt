@@ -2,12 +2,12 @@
 use Rattle.std.specs.Prelude.{◌≡◌, ◌≢◌, ◌≤◌, ◌<◌, ℕ, ℤ, List, [], true, false, Option, Some, None, Result, Ok, Err, length}
 use Rattle.mr_links.specs.declared.link_id.LinkId.{LinkId}
 use Rattle.mr_links.specs.Links.{links_limit}
-use Rattle.mr_outs.specs.Outs.{OutsState}
-use Rattle.mr_ends.specs.State.{Transaction}
-use Rattle.mr_ends.specs.State.EndState.{shut as closed}
-use Rattle.mr_rows.specs.State.{NodeState, Agrees, AgreesWithin, IsShut, IsTooMuch, MasterAgrees, ReplicaAgrees, end_of, stopped_as}
-use Rattle.mr_rows.specs.LinkRows.{Opens, Dials, Feeds}
-use Rattle.mr_rows.specs.TimeRows.{TickRow}
+use Rattle.mr_node_output.specs.Outs.{OutsState}
+use Rattle.mr_node_links.specs.State.{Transaction}
+use Rattle.mr_node_links.specs.State.EndState.{shut as closed}
+use Rattle.mr_node_spec.specs.State.{NodeState, Agrees, AgreesWithin, IsShut, IsTooMuch, MasterAgrees, ReplicaAgrees, end_of, stopped_as}
+use Rattle.mr_node_spec.specs.LinkRows.{Opens, Dials, Feeds}
+use Rattle.mr_node_spec.specs.TimeRows.{TickRow}
 use Rattle.mr_node.specs.declared.fault.NodeFault.{NodeFault}
 use Rattle.mr_node.specs.declared.fault.NodeFault.TheVariants as fault
 

@@ -4,9 +4,9 @@ use Rattle.std.specs.List.{AllByRecursion}
 use Rattle.mr_links.specs.declared.link_id.LinkId.{LinkId}
 use Rattle.mr_resp.specs.Replies.{Tree, array, replies_text, reply_text}
 use Rattle.mr_resp.specs.ReplyView.{view}
-use Rattle.mr_entries.specs.Dataset.{Dataset}
+use Rattle.mr_keyspace.specs.Dataset.{Dataset}
 use Rattle.mr_effect.specs.Spelling.{texts}
-use Rattle.mr_entries.specs.Changes.{NeedsNoMemory}
+use Rattle.mr_keyspace.specs.Changes.{NeedsNoMemory}
 use Rattle.mr_effect.specs.declared.effect.Effect.{Effect}
 use Rattle.mr_data.specs.declared.given.Given.{Given}
 use Rattle.mr_cmd_server.specs.declared.question.Question.{Question}
@@ -14,11 +14,11 @@ use Rattle.mr_groups.specs.Groups.{grown_text}
 use Rattle.mr_repl.specs.Lineage.{grown}
 use Rattle.mr_commands.specs.Requests.{HasPlan, IsPlain, question_in, quits}
 use Rattle.mr_commands.specs.Transactions.{Does, DoesAll, FirstTakesMemory, not_allowed}
-use Rattle.mr_outs.specs.Outs.{OutsState}
-use Rattle.mr_rows.specs.State.{NodeState, spent_as, stopped_as}
-use Rattle.mr_state.specs.Parts.{streams_on}
-use Rattle.mr_rows.specs.Growing.{FedTo}
-use Rattle.mr_rows.specs.Transactions.{as_trees, frame_of}
+use Rattle.mr_node_output.specs.Outs.{OutsState}
+use Rattle.mr_node_spec.specs.State.{NodeState, spent_as, stopped_as}
+use Rattle.mr_node_state.specs.Parts.{streams_on}
+use Rattle.mr_node_spec.specs.Growing.{FedTo}
+use Rattle.mr_node_spec.specs.Transactions.{as_trees, frame_of}
 use Rattle.mr_node.specs.Parts.{TellsOf}
 use Rattle.mr_node.specs.declared.fault.NodeFault.{NodeFault}
 use Rattle.mr_node.specs.declared.fault.NodeFault.TheVariants as fault

@@ -1,10 +1,10 @@
 -- What is to be done about a replica's unread bytes.
 use Rattle.std.specs.Prelude.{◌<◌, ℕ, ℤ, List, Result, Ok, Err, length}
 use Rattle.mr_cmd_node.specs.declared.node_ask.NodeAsk.TheVariants as node
-use Rattle.mr_ends.specs.State.{full}
-use Rattle.mr_ends.specs.Progresses.{AgreesAlong}
-use Rattle.mr_rows.specs.Requests.{Asks, Waits}
-use Rattle.mr_rows.specs.ReplicaRows.{IsUnwanted}
+use Rattle.mr_node_links.specs.State.{full}
+use Rattle.mr_node_links.specs.Progresses.{AgreesAlong}
+use Rattle.mr_node_spec.specs.Requests.{Asks, Waits}
+use Rattle.mr_node_spec.specs.ReplicaRows.{IsUnwanted}
 use Rattle.mr_commands.specs.Requests.{AsksNode}
 use Rattle.mr_node.specs.Reading.{Passes, Wishes}
 use Rattle.mr_node.specs.declared.noted.Noted.{Noted}

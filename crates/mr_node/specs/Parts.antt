@@ -2,7 +2,7 @@
 use Rattle.std.specs.Prelude.{◌≡◌, ◌≤◌, ◌<◌, ℕ, ℤ, List, [], Bool, true, false, not, Some, length, if◌then◌else◌}
 use Rattle.mr_links.specs.declared.link_id.LinkId.{LinkId}
 use Rattle.mr_resp.specs.Replies.{Tree, error, reply_text}
-use Rattle.mr_entries.specs.Dataset.{Dataset}
+use Rattle.mr_keyspace.specs.Dataset.{Dataset}
 use Rattle.mr_effect.specs.Spelling.{texts}
 use Rattle.mr_effect.specs.declared.effect.Effect.{Effect}
 use Rattle.mr_data.specs.Meaning.{apply_all}
@@ -10,17 +10,17 @@ use Rattle.mr_repl.specs.Lineage.{LineageState}
 use Rattle.mr_repl.specs.Backlog.{offset_limit}
 use Rattle.mr_cmd_node.specs.declared.node_ask.NodeAsk.{NodeAsk}
 use Rattle.mr_cmd_server.specs.declared.question.Question.{Question}
-use Rattle.mr_ends.specs.State.{EndState}
-use Rattle.mr_ends.specs.Ending.{used_of}
-use Rattle.mr_ends.specs.Replicas.{Lists}
-use Rattle.mr_outs.specs.Outs.{Output, OutsState}
-use Rattle.mr_rows.specs.State.{Core, IsNode, NodeState, end_of}
-use Rattle.mr_rows.specs.ClientRows.{IsAnswerToPsync}
-use Rattle.mr_rows.specs.Ends.{Leaves}
-use Rattle.mr_rows.specs.Growing.{FedTo, grown_by, offset_behind, limit_text}
+use Rattle.mr_node_links.specs.State.{EndState}
+use Rattle.mr_node_links.specs.Ending.{used_of}
+use Rattle.mr_node_links.specs.Replicas.{Lists}
+use Rattle.mr_node_output.specs.Outs.{Output, OutsState}
+use Rattle.mr_node_spec.specs.State.{Core, IsNode, NodeState, end_of}
+use Rattle.mr_node_spec.specs.ClientRows.{IsAnswerToPsync}
+use Rattle.mr_node_spec.specs.Ends.{Leaves}
+use Rattle.mr_node_spec.specs.Growing.{FedTo, grown_by, offset_behind, limit_text}
 use Rattle.mr_info.specs.Info.{info_text}
-use Rattle.mr_rows.specs.Telling.{Around, IsAround, answer_about, link_of}
-use Rattle.mr_rows.specs.Served.{IsQuiet}
+use Rattle.mr_node_spec.specs.Telling.{Around, IsAround, answer_about, link_of}
+use Rattle.mr_node_spec.specs.Served.{IsQuiet}
 use Rattle.mr_info.specs.declared.roles.MasterLink.{MasterLink}
 use Rattle.mr_info.specs.declared.roles.MasterLink.TheVariants as link
 use Rattle.mr_node.specs.Reading.{Wishes}

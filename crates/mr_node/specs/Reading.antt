@@ -1,7 +1,7 @@
 -- What is to be done about a client's unread bytes.
 use Rattle.std.specs.Prelude.{◌≡◌, ◌≤◌, ◌<◌, ℕ, List, Bool, true, Some, Result, Ok, Err, length, drop}
 use Rattle.mr_resp.specs.ReplyView.{view}
-use Rattle.mr_entries.specs.Dataset.{Dataset}
+use Rattle.mr_keyspace.specs.Dataset.{Dataset}
 use Rattle.mr_data.specs.declared.given.Given.{Given}
 use Rattle.mr_data.specs.declared.plan.Plan.{Plan}
 use Rattle.mr_cmd_server.specs.declared.question.Question.{Question}
@@ -10,10 +10,10 @@ use Rattle.mr_cmd_node.specs.declared.node_ask.NodeAsk.TheVariants as node
 use Rattle.mr_commands.specs.Requests.{AsksNode, HasPlan, IsPlain, halts, question_in, quits, rewrites}
 use Rattle.mr_commands.specs.declared.requests.Answer.{Answer}
 use Rattle.mr_commands.specs.declared.requests.Answer.TheVariants as answer
-use Rattle.mr_ends.specs.State.{full}
-use Rattle.mr_ends.specs.Progresses.{AgreesAlong}
-use Rattle.mr_rows.specs.Requests.{Asks, AsksNothing, Waits, IsDoomedBy}
-use Rattle.mr_rows.specs.ClientRows.{MayLack}
+use Rattle.mr_node_links.specs.State.{full}
+use Rattle.mr_node_links.specs.Progresses.{AgreesAlong}
+use Rattle.mr_node_spec.specs.Requests.{Asks, AsksNothing, Waits, IsDoomedBy}
+use Rattle.mr_node_spec.specs.ClientRows.{MayLack}
 use Rattle.mr_node.specs.declared.request.NodeRequest.{NodeRequest}
 use Rattle.mr_node.specs.declared.request.NodeRequest.TheVariants as request
 use Rattle.mr_node.specs.declared.todo.Todo.{Todo}

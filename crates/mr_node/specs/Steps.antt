@@ -1,17 +1,17 @@
 -- What a step came to, by its row for the kind of the end that it was made at.
 use Rattle.std.specs.Prelude.{◌≡◌, ◌≢◌, ℕ, List, true, false, Some, None, Result, Ok, Err}
 use Rattle.mr_links.specs.declared.link_id.LinkId.{LinkId}
-use Rattle.mr_entries.specs.Dataset.{Dataset}
+use Rattle.mr_keyspace.specs.Dataset.{Dataset}
 use Rattle.mr_data.specs.declared.given.Given.{Given}
-use Rattle.mr_outs.specs.Outs.{OutsState}
-use Rattle.mr_ends.specs.State.{Transaction}
-use Rattle.mr_course.specs.State.{name_of}
-use Rattle.mr_course.specs.declared.upstream.UpstreamStep.{UpstreamStep}
-use Rattle.mr_course.specs.declared.upstream.UpstreamStep.TheVariants as outcome
-use Rattle.mr_rows.specs.State.{NodeState, Agrees, ReplicaAgrees, IsShut, end_of, spent_as}
-use Rattle.mr_rows.specs.ClientRows.{ClientRow, Idles, MayLack, Stops}
-use Rattle.mr_rows.specs.ReplicaRows.{ReplicaRow}
-use Rattle.mr_rows.specs.UpstreamRows as master
+use Rattle.mr_node_output.specs.Outs.{OutsState}
+use Rattle.mr_node_links.specs.State.{Transaction}
+use Rattle.mr_replication.specs.State.{name_of}
+use Rattle.mr_replication.specs.declared.upstream.UpstreamStep.{UpstreamStep}
+use Rattle.mr_replication.specs.declared.upstream.UpstreamStep.TheVariants as outcome
+use Rattle.mr_node_spec.specs.State.{NodeState, Agrees, ReplicaAgrees, IsShut, end_of, spent_as}
+use Rattle.mr_node_spec.specs.ClientRows.{ClientRow, Idles, MayLack, Stops}
+use Rattle.mr_node_spec.specs.ReplicaRows.{ReplicaRow}
+use Rattle.mr_node_spec.specs.UpstreamRows as master
 use Rattle.mr_node.specs.Noting.{BeginsWithWords}
 use Rattle.mr_node.specs.Within.{IsAtOpen, WithinStep}
 use Rattle.mr_node.specs.declared.fault.NodeFault.{NodeFault}

@@ -5,15 +5,15 @@ use Rattle.mr_bytes.specs.Words.{fits}
 use Rattle.mr_effect.specs.Spelling.{texts}
 use Rattle.mr_effect.specs.declared.effect.Effect.{Effect}
 use Rattle.mr_effect.specs.declared.effect.Effect.TheVariants as effect
-use Rattle.mr_entries.specs.Dataset.{Dataset}
+use Rattle.mr_keyspace.specs.Dataset.{Dataset}
 use Rattle.mr_data.specs.Due.{deletions, within}
 use Rattle.mr_data.specs.declared.due.DueKey.{DueKey}
 use Rattle.mr_repl.specs.Backlog.{offset_limit}
-use Rattle.mr_outs.specs.Outs.{OutsState, no_outs}
-use Rattle.mr_rows.specs.State.{NodeState}
-use Rattle.mr_rows.specs.Growing.{FedTo, offset_behind}
-use Rattle.mr_rows.specs.TimeRows.{Beats, HasNone, HasPassed, HasReplicas, IsUnmarked, IsWaiting, beat_after, room_in}
-use Rattle.mr_rows.specs.TimeRows as time
+use Rattle.mr_node_output.specs.Outs.{OutsState, no_outs}
+use Rattle.mr_node_spec.specs.State.{NodeState}
+use Rattle.mr_node_spec.specs.Growing.{FedTo, offset_behind}
+use Rattle.mr_node_spec.specs.TimeRows.{Beats, HasNone, HasPassed, HasReplicas, IsUnmarked, IsWaiting, beat_after, room_in}
+use Rattle.mr_node_spec.specs.TimeRows as time
 use Rattle.mr_node.specs.declared.node.ticking.Since.{Since}
 use Rattle.mr_node.specs.declared.node.ticking.Since.TheVariants as since
 use Rattle.mr_node.specs.declared.node.ticking.Beats.{Beats as Told}

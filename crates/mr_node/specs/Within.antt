@@ -2,16 +2,16 @@
 use Rattle.std.specs.Prelude.{◌≡◌, ℕ, List, Bool, true, Result, Ok, Err, length, ◌<◌}
 use Rattle.mr_links.specs.declared.link_id.LinkId.{LinkId}
 use Rattle.mr_resp.specs.Replies.{Tree}
-use Rattle.mr_entries.specs.Dataset.{Dataset}
+use Rattle.mr_keyspace.specs.Dataset.{Dataset}
 use Rattle.mr_data.specs.declared.given.Given.{Given}
 use Rattle.mr_commands.specs.Transactions.{coming, IsWithin}
 use Rattle.mr_commands.specs.declared.transactions.Within.{Within}
-use Rattle.mr_ends.specs.State.{Transaction, full}
-use Rattle.mr_ends.specs.Progresses.{AgreesAlong}
-use Rattle.mr_rows.specs.State.{AgreesWithin, NodeState, spent_as}
-use Rattle.mr_rows.specs.Requests.{Waits, IsDoomedBy}
-use Rattle.mr_rows.specs.ClientRows.{Idles, MayLack}
-use Rattle.mr_rows.specs.Transactions.{DropsBy, StopsWithin, WithinRow}
+use Rattle.mr_node_links.specs.State.{Transaction, full}
+use Rattle.mr_node_links.specs.Progresses.{AgreesAlong}
+use Rattle.mr_node_spec.specs.State.{AgreesWithin, NodeState, spent_as}
+use Rattle.mr_node_spec.specs.Requests.{Waits, IsDoomedBy}
+use Rattle.mr_node_spec.specs.ClientRows.{Idles, MayLack}
+use Rattle.mr_node_spec.specs.Transactions.{DropsBy, StopsWithin, WithinRow}
 use Rattle.mr_node.specs.Reading.{Passes, Reads}
 use Rattle.mr_node.specs.declared.fault.NodeFault.{NodeFault}
 use Rattle.mr_node.specs.declared.fault.NodeFault.TheVariants as fault

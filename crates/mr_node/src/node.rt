@@ -1,9 +1,9 @@
 // A node.
 ghost use Rattle.std.specs.Prelude.{◌≡◌, true, None, Some, IfOk};
-ghost use Rattle.mr_outs.specs.Outs.{no_outs};
-ghost use Rattle.mr_ends.specs.Parts.{HasAhead};
-ghost use Rattle.mr_rows.specs.State.{shown, started};
-ghost use Rattle.mr_rows.specs.Sound.{IsSound};
+ghost use Rattle.mr_node_output.specs.Outs.{no_outs};
+ghost use Rattle.mr_node_links.specs.Parts.{HasAhead};
+ghost use Rattle.mr_node_spec.specs.State.{shown, started};
+ghost use Rattle.mr_node_spec.specs.Sound.{IsSound};
 ghost use Rattle.mr_node.specs.Parts.{Uses};
 
 mod answering;
@@ -20,12 +20,12 @@ mod ticking;
 mod waiting;
 
 use crate::config::Config;
-use mr_course::Course;
 use mr_data::Dataset;
 use mr_links::LinkId;
-use mr_outs::{Buffers, Outs};
+use mr_node_output::{Buffers, Outs};
+use mr_node_state::State;
 use mr_repl::{Lineage, ReplId};
-use mr_state::State;
+use mr_replication::Course;
 use std::alloc::{AllocError, Global};
 use std::marker::Model;
 use std::mem;
@@ -39,7 +39,7 @@ pub struct Node {
 }
 
 impl Model for Node {
-    ghost use Rattle.mr_rows.specs.State.{NodeState, node_code};
+    ghost use Rattle.mr_node_spec.specs.State.{NodeState, node_code};
 
     ghost Value = { NodeState };
 
@@ -57,7 +57,8 @@ impl Node {
         held: Dataset,
         config: Config,
     ) -> Result<Node, AllocError>
-        ensures { IfOk result (λ a. a ≡ started config.replica config.port config.backlog id held) }
+        ensures { IfOk result (λ a.
+            a ≡ started config.replica config.port config.backlog id held) }
     {
         let Ok(lineage) = Lineage::new(alloc, id, config.backlog, 0) else {
             return Err(AllocError);

@@ -1,7 +1,7 @@
 // What is to be done about a replica's unread bytes.
 ghost use Rattle.std.specs.Prelude.{◌<◌, length, map, IfOk, OnErr, IfSome, IfNone};
 ghost use Rattle.std.specs.Cow.{cow_slice_items};
-ghost use Rattle.mr_ends.specs.Progresses.{AgreesAlong};
+ghost use Rattle.mr_node_links.specs.Progresses.{AgreesAlong};
 ghost use Rattle.mr_node.specs.Noting.{IsNoted, BeginsWithWords, KeepsNoted, Acknowledges, AcknowledgesNothing};
 
 use mr_ask::{Ask, read};

@@ -2,11 +2,11 @@
 ghost use Rattle.std.specs.Prelude.{◌≡◌};
 ghost use Rattle.mr_resp.specs.Replies.{error};
 ghost use Rattle.mr_resp.specs.ReplyView.{view};
-ghost use Rattle.mr_room.specs.Answered.{done};
+ghost use Rattle.mr_cmd_shared.specs.Answered.{done};
 ghost use Rattle.mr_cmd_server.specs.Commands.{rewriting};
 ghost use Rattle.mr_commands.specs.Transactions.{aborted, discard_alone, exec_alone, nested, queued};
-ghost use Rattle.mr_rows.specs.Growing.{limit_text};
-ghost use Rattle.mr_rows.specs.Served.{not_chained};
+ghost use Rattle.mr_node_spec.specs.Growing.{limit_text};
+ghost use Rattle.mr_node_spec.specs.Served.{not_chained};
 
 use mr_resp::Reply;
 use std::borrow::CowSlice;

@@ -3,8 +3,8 @@ ghost use Rattle.std.specs.Prelude.{◌≡◌, IfOk};
 ghost use Rattle.mr_node.specs.Reading.{IsWish};
 
 use mr_cmd_node::{NodeAsk, ReplicaOption, Told};
-use mr_ends::Introduction;
-use mr_outs::Address;
+use mr_node_links::Introduction;
+use mr_node_output::Address;
 use std::alloc::{AllocError, Global};
 
 /// What a request asks of the node itself, with its words copied.
@@ -65,17 +65,13 @@ pub(crate) fn request_of(alloc: Global, ask: &NodeAsk<'_, '_>) -> Result<NodeReq
     }
 }
 
-/// The port and the address among what a replica says of itself; of several the last.
+/// The port and the address among what a replica says of itself; of several the last that may be one.
 fn introduction_of(alloc: Global, told: &Told<'_, '_>) -> Result<Introduction, AllocError> {
     let mut introduction = Introduction::none();
     for (option, value) in told.iter() {
         match option {
-            ReplicaOption::ListeningPort => {
-                introduction.port = Some(Vec::from_slice(alloc, value)?);
-            }
-            ReplicaOption::IpAddress => {
-                introduction.address = Some(Vec::from_slice(alloc, value)?);
-            }
+            ReplicaOption::ListeningPort => introduction.name_port(alloc, value)?,
+            ReplicaOption::IpAddress => introduction.name_address(alloc, value)?,
             ReplicaOption::Capability => {}
         }
     }

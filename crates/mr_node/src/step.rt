@@ -1,5 +1,5 @@
 // What a step came to.
-use mr_outs::Outs;
+use mr_node_output::Outs;
 
 /// What a step came to.
 #[derive(Drop)]

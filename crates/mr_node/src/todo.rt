@@ -4,8 +4,8 @@ ghost use Rattle.std.specs.List.{list_all};
 ghost use Rattle.std.specs.Cow.{cow_slice_items};
 ghost use Rattle.mr_bytes.specs.Words.{fits};
 ghost use Rattle.mr_resp.specs.Usual.{commands};
-ghost use Rattle.mr_ends.specs.Progresses.{AgreesAlong};
-ghost use Rattle.mr_rows.specs.ClientRows.{MayLack};
+ghost use Rattle.mr_node_links.specs.Progresses.{AgreesAlong};
+ghost use Rattle.mr_node_spec.specs.ClientRows.{MayLack};
 ghost use Rattle.mr_node.specs.Reading.{IsTodo, KeepsAlong, IsDone, carry_out};
 
 use crate::request::{NodeRequest, request_of};
@@ -82,7 +82,8 @@ pub(crate) fn request_todo(
     requires some { 0 < length words.now }
     requires fit { IsTrue (list_all fits (map cow_slice_items words.now)) }
     requires few { length words.now ≤ commands.words }
-    ensures { IfOk result (λ t. IsDone replica (map cow_slice_items words.now) used given held.now t) }
+    ensures { IfOk result (λ t.
+        IsDone replica (map cow_slice_items words.now) used given held.now t) }
 {
     match read(words) {
         Err(fault) => Ok(Todo::Run {

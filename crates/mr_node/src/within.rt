@@ -1,9 +1,9 @@
 // What is to be done about a client's unread bytes where a transaction is open.
 ghost use Rattle.std.specs.Prelude.{◌≡◌, ◌<◌, map, length, IfOk, OnErr};
 ghost use Rattle.std.specs.Cow.{cow_slice_items};
-ghost use Rattle.mr_ends.specs.Progresses.{AgreesAlong};
+ghost use Rattle.mr_node_links.specs.Progresses.{AgreesAlong};
 ghost use Rattle.mr_commands.specs.Transactions.{IsWithin, coming};
-ghost use Rattle.mr_rows.specs.ClientRows.{MayLack};
+ghost use Rattle.mr_node_spec.specs.ClientRows.{MayLack};
 ghost use Rattle.mr_node.specs.Within.{IsTodoWithin, KeepsAlong};
 
 use mr_ask::read;

@@ -45,7 +45,8 @@ fn with_text<'a>(
     name: &'a str,
 ) -> Result<Command<'a>, AllocError>
     requires { (out-Command command).has_globals ≡ false }
-    ensures shape { IfOk result (λ c. app_of c ≡ with_rule (app_of command.entry) (text_rule name.entry.now)) }
+    ensures shape { IfOk result (λ c.
+        app_of c ≡ with_rule (app_of command.entry) (text_rule name.entry.now)) }
     ensures local { IfOk result (λ c. (out-Command c).has_globals ≡ false) }
 {
     command.arg(Arg::new(alloc, name).long(name))
@@ -60,7 +61,8 @@ fn with_number<'a>(
     most: u64,
 ) -> Result<Command<'a>, AllocError>
     requires { (out-Command command).has_globals ≡ false }
-    ensures shape { IfOk result (λ c. app_of c ≡ with_rule (app_of command.entry) (number_rule name.entry.now least most)) }
+    ensures shape { IfOk result (λ c.
+        app_of c ≡ with_rule (app_of command.entry) (number_rule name.entry.now least most)) }
     ensures local { IfOk result (λ c. (out-Command c).has_globals ≡ false) }
 {
     command.arg(number_option(alloc, name, least, most))
@@ -75,7 +77,9 @@ fn with_needed_number<'a>(
     most: u64,
 ) -> Result<Command<'a>, AllocError>
     requires { (out-Command command).has_globals ≡ false }
-    ensures shape { IfOk result (λ c. app_of c ≡ with_rule (app_of command.entry) (needed (number_rule name.entry.now least most))) }
+    ensures shape { IfOk result (λ c.
+        app_of c ≡
+        with_rule (app_of command.entry) (needed (number_rule name.entry.now least most))) }
     ensures local { IfOk result (λ c. (out-Command c).has_globals ≡ false) }
 {
     command.arg(number_option(alloc, name, least, most).required(true))
@@ -146,7 +150,8 @@ fn with_pipe<'a>(alloc: Global) -> Result<Command<'a>, AllocError>
 
 /// .. and with `serve`.
 fn with_serve<'a>(alloc: Global) -> Result<Command<'a>, AllocError>
-    ensures shape { IfOk result (λ c. app_of c ≡ with_subcommand (with_subcommand bare pipe_line.top) serve_line.top) }
+    ensures shape { IfOk result (λ c.
+        app_of c ≡ with_subcommand (with_subcommand bare pipe_line.top) serve_line.top) }
 {
     let serve = serve_command(alloc)?;
     with_pipe(alloc)?.subcommand(serve)
@@ -154,7 +159,10 @@ fn with_serve<'a>(alloc: Global) -> Result<Command<'a>, AllocError>
 
 /// .. and with `trio`.
 fn with_trio<'a>(alloc: Global) -> Result<Command<'a>, AllocError>
-    ensures shape { IfOk result (λ c. app_of c ≡ with_subcommand (with_subcommand (with_subcommand bare pipe_line.top) serve_line.top) trio_line.top) }
+    ensures shape { IfOk result (λ c.
+        app_of c ≡
+        with_subcommand (with_subcommand (with_subcommand bare pipe_line.top) serve_line.top)
+        trio_line.top) }
 {
     with_serve(alloc)?.subcommand(Command::new(alloc, "trio"))
 }

@@ -32,9 +32,13 @@ pub use line::{Master, Options, PipeOptions, ServeOptions, WorldOptions};
 /// The options of the subcommand `name`, or the fault where a value is none.
 fn options_of<'a>(name: &str, matches: &ArgMatches<'a>) -> Result<Options<'a>, UsageFault>
     requires { (words : List Text) × IsLineOf name.now words (rows_of (found_of matches.now)) }
-    ensures ok { (words : List Text) → IsLineOf name.now words (rows_of (found_of matches.now)) → IfOk result (SaysOptions words) }
+    ensures ok { (words : List Text) →
+        IsLineOf name.now words (rows_of (found_of matches.now)) →
+        IfOk result (SaysOptions words) }
     ensures range { IfOk result IsInRange }
-    ensures err { (words : List Text) → IsLineOf name.now words (rows_of (found_of matches.now)) → IfErr result (ExplainsFault words) }
+    ensures err { (words : List Text) →
+        IsLineOf name.now words (rows_of (found_of matches.now)) →
+        IfErr result (ExplainsFault words) }
 {
     match name {
         "pipe" => match pipe_of(matches) {

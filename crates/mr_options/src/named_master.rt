@@ -21,7 +21,8 @@ fn port_of(text: &str) -> Option<u16>
 /// The node that a text names: what stands before its last colon is the host, and what stands behind it the port.
 pub(crate) fn master_named(text: &str) -> Option<Master<'_>>
     ensures some { IfSome result (Names text.now) }
-    ensures none { IfNone result ((host : Text) (port : ℕ) → IsPort port → master_text host port ≢ text.now) }
+    ensures none { IfNone result ((host : Text) (port : ℕ) → IsPort port →
+        master_text host port ≢ text.now) }
 {
     let (host, digits) = text.rsplit_once(':')?;
     let port = port_of(digits)?;

@@ -13,7 +13,8 @@ pub(crate) fn remove_range_from<P: Part>(parts: &mut Vec<P>, from: usize, to: us
     requires ordered { from ≤ to }
     requires within { to ≤ length (flat_map P.items parts.old.items) }
     ensures sound { All (IsSound P.items P.is_kept) parts.new.items }
-    ensures removed { flat_map P.items parts.new.items ≡ remove_range (flat_map P.items parts.old.items) from to }
+    ensures removed { flat_map P.items parts.new.items ≡
+        remove_range (flat_map P.items parts.old.items) from to }
     ensures parts { length parts.new.items ≤ length parts.old.items }
 {
     let mut end = to;
@@ -28,7 +29,8 @@ fn remove_some<P: Part>(parts: &mut Vec<P>, from: usize, to: usize) -> usize
     requires some { from < to }
     requires within { to ≤ length (flat_map P.items parts.old.items) }
     ensures sound { All (IsSound P.items P.is_kept) parts.new.items }
-    ensures removed { flat_map P.items parts.new.items ≡ remove_range (flat_map P.items parts.old.items) from (from + result) }
+    ensures removed { flat_map P.items parts.new.items ≡
+        remove_range (flat_map P.items parts.old.items) from (from + result) }
     ensures some { 0 < result }
     ensures within { from + result ≤ to }
     ensures parts { length parts.new.items ≤ length parts.old.items }
@@ -51,10 +53,14 @@ fn remove_within<P: Part>(parts: &mut Vec<P>, part: usize, from: usize, to: usiz
     requires part { part < length parts.old.items }
     requires ordered { from ≤ to }
     requires within { (d : P) → to ≤ length (P.items (slice_index_or parts.old.items part d)) }
-    requires others { (d : P) → to - from < length (P.items (slice_index_or parts.old.items part d)) }
+    requires others { (d : P) →
+        to - from < length (P.items (slice_index_or parts.old.items part d)) }
     ensures sound { All (IsSound P.items P.is_kept) parts.new.items }
     ensures parts { length parts.new.items ≡ length parts.old.items }
-    ensures removed { flat_map P.items parts.new.items ≡ remove_range (flat_map P.items parts.old.items) (length (flat_map P.items (take part parts.old.items)) + from) (length (flat_map P.items (take part parts.old.items)) + to) }
+    ensures removed { flat_map P.items parts.new.items ≡
+        remove_range (flat_map P.items parts.old.items)
+        (length (flat_map P.items (take part parts.old.items)) + from)
+        (length (flat_map P.items (take part parts.old.items)) + to) }
 {
     parts[part].remove_range(from, to)
 }

@@ -26,8 +26,11 @@ pub(crate) fn put_into<P: Part>(
     requires small { len < length_limit }
     requires divided { IsDivided (P.Item.cmp item) (flat_map P.items parts.old.items) }
     ensures sound { All (IsSound P.items P.is_kept) parts.new.items }
-    ensures ok { IfOk result (λ other. IsPut (P.Item.cmp item) (flat_map P.items parts.old.items) item replaces (flat_map P.items parts.new.items) other) }
-    ensures err { OnErr result (flat_map P.items parts.new.items ≡ flat_map P.items parts.old.items) }
+    ensures ok { IfOk result (λ other.
+        IsPut (P.Item.cmp item) (flat_map P.items parts.old.items) item replaces
+        (flat_map P.items parts.new.items) other) }
+    ensures err { OnErr result (flat_map P.items parts.new.items ≡
+        flat_map P.items parts.old.items) }
     ensures parts { length parts.new.items ≤ length parts.old.items + 1 }
 {
     if parts.is_empty() {
@@ -53,8 +56,11 @@ fn put_by_place<P: Part>(
     requires small { len < length_limit }
     requires divided { IsDivided (P.Item.cmp item) (flat_map P.items parts.old.items) }
     ensures sound { All (IsSound P.items P.is_kept) parts.new.items }
-    ensures ok { IfOk result (λ other. IsPut (P.Item.cmp item) (flat_map P.items parts.old.items) item replaces (flat_map P.items parts.new.items) other) }
-    ensures err { OnErr result (flat_map P.items parts.new.items ≡ flat_map P.items parts.old.items) }
+    ensures ok { IfOk result (λ other.
+        IsPut (P.Item.cmp item) (flat_map P.items parts.old.items) item replaces
+        (flat_map P.items parts.new.items) other) }
+    ensures err { OnErr result (flat_map P.items parts.new.items ≡
+        flat_map P.items parts.old.items) }
     ensures parts { length parts.new.items ≤ length parts.old.items + 1 }
 {
     match locate(parts, &item) {
@@ -78,10 +84,15 @@ fn put_in_part<P: Part>(
     requires part { part < length parts.old.items }
     requires room { (d : P) → P.is_full (slice_index_or parts.old.items part d) ≡ false }
     requires divided { IsDivided (P.Item.cmp item) (flat_map P.items parts.old.items) }
-    requires between { IsBetween (P.Item.cmp item) (flat_map P.items parts.old.items) (length (flat_map P.items (take part parts.old.items))) (length (flat_map P.items (take (part + 1) parts.old.items))) }
+    requires between { IsBetween (P.Item.cmp item) (flat_map P.items parts.old.items)
+        (length (flat_map P.items (take part parts.old.items)))
+        (length (flat_map P.items (take (part + 1) parts.old.items))) }
     ensures sound { All (IsSound P.items P.is_kept) parts.new.items }
-    ensures ok { IfOk result (λ other. IsPut (P.Item.cmp item) (flat_map P.items parts.old.items) item replaces (flat_map P.items parts.new.items) other) }
-    ensures err { OnErr result (flat_map P.items parts.new.items ≡ flat_map P.items parts.old.items) }
+    ensures ok { IfOk result (λ other.
+        IsPut (P.Item.cmp item) (flat_map P.items parts.old.items) item replaces
+        (flat_map P.items parts.new.items) other) }
+    ensures err { OnErr result (flat_map P.items parts.new.items ≡
+        flat_map P.items parts.old.items) }
     ensures parts { length parts.new.items ≡ length parts.old.items }
 {
     parts[part].put(item, replaces)
@@ -94,7 +105,8 @@ pub(crate) fn take_out<P: Part, Q: Query<P::Item>>(parts: &mut Vec<P>, query: Q)
     requires small { length (flat_map P.items parts.old.items) < 2 ^ 63 }
     requires divided { IsDivided (Q.compare query) (flat_map P.items parts.old.items) }
     ensures sound { All (IsSound P.items P.is_kept) parts.new.items }
-    ensures taken { IsTaken (Q.compare query) (flat_map P.items parts.old.items) result (flat_map P.items parts.new.items) }
+    ensures taken { IsTaken (Q.compare query) (flat_map P.items parts.old.items) result
+        (flat_map P.items parts.new.items) }
     ensures parts { length parts.new.items ≤ length parts.old.items }
 {
     if parts.is_empty() {
@@ -115,7 +127,8 @@ fn take_by_place<P: Part, Q: Query<P::Item>>(parts: &mut Vec<P>, query: Q) -> Op
     requires small { length (flat_map P.items parts.old.items) < 2 ^ 63 }
     requires divided { IsDivided (Q.compare query) (flat_map P.items parts.old.items) }
     ensures sound { All (IsSound P.items P.is_kept) parts.new.items }
-    ensures taken { IsTaken (Q.compare query) (flat_map P.items parts.old.items) result (flat_map P.items parts.new.items) }
+    ensures taken { IsTaken (Q.compare query) (flat_map P.items parts.old.items) result
+        (flat_map P.items parts.new.items) }
     ensures parts { length parts.new.items ≤ length parts.old.items }
 {
     match locate(parts, query) {
@@ -135,9 +148,12 @@ fn take_in_part<P: Part, Q: Query<P::Item>>(
     requires part { part < length parts.old.items }
     requires others { (d : P) → 1 < length (P.items (slice_index_or parts.old.items part d)) }
     requires divided { IsDivided (Q.compare query) (flat_map P.items parts.old.items) }
-    requires between { IsBetween (Q.compare query) (flat_map P.items parts.old.items) (length (flat_map P.items (take part parts.old.items))) (length (flat_map P.items (take (part + 1) parts.old.items))) }
+    requires between { IsBetween (Q.compare query) (flat_map P.items parts.old.items)
+        (length (flat_map P.items (take part parts.old.items)))
+        (length (flat_map P.items (take (part + 1) parts.old.items))) }
     ensures sound { All (IsSound P.items P.is_kept) parts.new.items }
-    ensures taken { IsTaken (Q.compare query) (flat_map P.items parts.old.items) result (flat_map P.items parts.new.items) }
+    ensures taken { IsTaken (Q.compare query) (flat_map P.items parts.old.items) result
+        (flat_map P.items parts.new.items) }
     ensures parts { length parts.new.items ≡ length parts.old.items }
 {
     parts[part].take(query)

@@ -19,8 +19,10 @@ pub(crate) fn insert_into<P: Part>(
     requires len { len ≡ length (flat_map P.items parts.old.items) }
     requires within { at ≤ len }
     ensures sound { All (IsSound P.items P.is_kept) parts.new.items }
-    ensures ok { OnOk result (flat_map P.items parts.new.items ≡ insert (flat_map P.items parts.old.items) at item) }
-    ensures err { OnErr result (flat_map P.items parts.new.items ≡ flat_map P.items parts.old.items) }
+    ensures ok { OnOk result (flat_map P.items parts.new.items ≡
+        insert (flat_map P.items parts.old.items) at item) }
+    ensures err { OnErr result (flat_map P.items parts.new.items ≡
+        flat_map P.items parts.old.items) }
     ensures parts { length parts.new.items ≤ length parts.old.items + 1 }
 {
     if at == len && !has_room_behind(parts) {
@@ -48,8 +50,10 @@ fn has_room_behind<P: Part>(parts: &[P]) -> bool
 fn push_one<P: Part>(parts: &mut Vec<P>, item: P::Item) -> Result<(), AllocError>
     requires { All (IsSound P.items P.is_kept) parts.old.items }
     ensures sound { All (IsSound P.items P.is_kept) parts.new.items }
-    ensures ok { OnOk result (flat_map P.items parts.new.items ≡ flat_map P.items parts.old.items ++ item ∷ []) }
-    ensures err { OnErr result (flat_map P.items parts.new.items ≡ flat_map P.items parts.old.items) }
+    ensures ok { OnOk result (flat_map P.items parts.new.items ≡
+        flat_map P.items parts.old.items ++ item ∷ []) }
+    ensures err { OnErr result (flat_map P.items parts.new.items ≡
+        flat_map P.items parts.old.items) }
     ensures parts { length parts.new.items ≤ length parts.old.items + 1 }
 {
     let alloc = *parts.allocator();
@@ -67,11 +71,15 @@ fn put<P: Part>(
 ) -> Result<(), AllocError>
     requires sound { All (IsSound P.items P.is_kept) parts.old.items }
     requires part { part < length parts.old.items }
-    requires within { (d : P) → place ≤ length (P.items (slice_index_or parts.old.items part d)) }
+    requires within { (d : P) →
+        place ≤ length (P.items (slice_index_or parts.old.items part d)) }
     requires room { (d : P) → P.is_full (slice_index_or parts.old.items part d) ≡ false }
     ensures sound { All (IsSound P.items P.is_kept) parts.new.items }
-    ensures ok { OnOk result (flat_map P.items parts.new.items ≡ insert (flat_map P.items parts.old.items) (length (flat_map P.items (take part parts.old.items)) + place) item) }
-    ensures err { OnErr result (flat_map P.items parts.new.items ≡ flat_map P.items parts.old.items) }
+    ensures ok { OnOk result (flat_map P.items parts.new.items ≡
+        insert (flat_map P.items parts.old.items)
+        (length (flat_map P.items (take part parts.old.items)) + place) item) }
+    ensures err { OnErr result (flat_map P.items parts.new.items ≡
+        flat_map P.items parts.old.items) }
     ensures parts { length parts.new.items ≡ length parts.old.items }
 {
     parts[part].insert(place, item)?;
@@ -87,11 +95,15 @@ fn put_in_halves<P: Part>(
 ) -> Result<(), AllocError>
     requires sound { All (IsSound P.items P.is_kept) parts.old.items }
     requires part { part < length parts.old.items }
-    requires within { (d : P) → place ≤ length (P.items (slice_index_or parts.old.items part d)) }
+    requires within { (d : P) →
+        place ≤ length (P.items (slice_index_or parts.old.items part d)) }
     requires full { (d : P) → P.is_full (slice_index_or parts.old.items part d) ≡ true }
     ensures sound { All (IsSound P.items P.is_kept) parts.new.items }
-    ensures ok { OnOk result (flat_map P.items parts.new.items ≡ insert (flat_map P.items parts.old.items) (length (flat_map P.items (take part parts.old.items)) + place) item) }
-    ensures err { OnErr result (flat_map P.items parts.new.items ≡ flat_map P.items parts.old.items) }
+    ensures ok { OnOk result (flat_map P.items parts.new.items ≡
+        insert (flat_map P.items parts.old.items)
+        (length (flat_map P.items (take part parts.old.items)) + place) item) }
+    ensures err { OnErr result (flat_map P.items parts.new.items ≡
+        flat_map P.items parts.old.items) }
     ensures parts { length parts.new.items ≤ length parts.old.items + 1 }
 {
     parts.reserve(1)?;
@@ -118,8 +130,10 @@ fn put_in_either<P: Part>(
     requires within { place ≤ length (P.items head.old ++ P.items tail.old) }
     ensures head { IsSound P.items P.is_kept head.new }
     ensures tail { IsSound P.items P.is_kept tail.new }
-    ensures ok { OnOk result (P.items head.new ++ P.items tail.new ≡ insert (P.items head.old ++ P.items tail.old) place item) }
-    ensures err { OnErr result (P.items head.new ++ P.items tail.new ≡ P.items head.old ++ P.items tail.old) }
+    ensures ok { OnOk result (P.items head.new ++ P.items tail.new ≡
+        insert (P.items head.old ++ P.items tail.old) place item) }
+    ensures err { OnErr result (P.items head.new ++ P.items tail.new ≡
+        P.items head.old ++ P.items tail.old) }
 {
     let len = head.len();
     if place <= len {

@@ -52,7 +52,9 @@ pub(crate) fn part_of<P: Part, Q: Query<P::Item>>(parts: &[P], query: Q) -> usiz
     requires some { 0 < length parts.now }
     requires divided { IsDivided (Q.compare query) (flat_map P.items parts.now) }
     ensures part { result < length parts.now }
-    ensures between { IsBetween (Q.compare query) (flat_map P.items parts.now) (length (flat_map P.items (take result parts.now))) (length (flat_map P.items (take (result + 1) parts.now))) }
+    ensures between { IsBetween (Q.compare query) (flat_map P.items parts.now)
+        (length (flat_map P.items (take result parts.now)))
+        (length (flat_map P.items (take (result + 1) parts.now))) }
 {
     let mut part = 0;
     let mut past = parts.len();

@@ -98,7 +98,8 @@ impl<T: Ord + Drop> Ordered<T> {
     /// as many items as the number of items has binary digits.
     pub fn search<Q: Query<T>>(&self, query: Q, steps: &mut Steps) -> Result<usize, usize>
         ensures place { IsPlaceOf (Q.compare query) self.now result }
-        ensures steps { (digits : ℕ) → length self.now < 2 ^ digits → steps.new.count ≤ steps.old.count + digits }
+        ensures steps { (digits : ℕ) → length self.now < 2 ^ digits →
+            steps.new.count ≤ steps.old.count + digits }
         ensures rising { steps.old.count ≤ steps.new.count }
     {
         self.places.search(query, steps)
@@ -130,8 +131,10 @@ impl<T: Ord + Drop> Ordered<T> {
     /// most as many items as the number of items has binary digits.
     pub fn place<Q: Query<T>>(&self, query: Q, steps: &mut Steps) -> usize
         ensures within { result ≤ length self.now }
-        ensures place { IsPartitionPoint (λ y. Q.compare query y ≡ Greater) (λ y. IsTrue (is_le (Q.compare query y))) self.now result }
-        ensures steps { (digits : ℕ) → length self.now < 2 ^ digits → steps.new.count ≤ steps.old.count + digits }
+        ensures place { IsPartitionPoint (λ y. Q.compare query y ≡ Greater) (λ y.
+            IsTrue (is_le (Q.compare query y))) self.now result }
+        ensures steps { (digits : ℕ) → length self.now < 2 ^ digits →
+            steps.new.count ≤ steps.old.count + digits }
         ensures rising { steps.old.count ≤ steps.new.count }
     {
         match self.search(query, steps) {
@@ -143,7 +146,8 @@ impl<T: Ord + Drop> Ordered<T> {
     /// The same count as `place`, found as `locate` finds it: it may compare some items more.
     pub fn count_below<Q: Query<T>>(&self, query: Q) -> usize
         ensures within { result ≤ length self.now }
-        ensures place { IsPartitionPoint (λ y. Q.compare query y ≡ Greater) (λ y. IsTrue (is_le (Q.compare query y))) self.now result }
+        ensures place { IsPartitionPoint (λ y. Q.compare query y ≡ Greater) (λ y.
+            IsTrue (is_le (Q.compare query y))) self.now result }
     {
         match self.locate(query) {
             Ok(at) | Err(at) => at,
@@ -154,7 +158,8 @@ impl<T: Ord + Drop> Ordered<T> {
     /// runs out, all is as it was.
     pub fn insert(&mut self, item: T) -> Result<bool, AllocError>
         ensures ok { OnOk result (self.new ≡ insert_key T.cmp self.old item) }
-        ensures added { IfOk result (λ added. length self.new ≡ length self.old + (if added then 1 else 0)) }
+        ensures added { IfOk result (λ added.
+            length self.new ≡ length self.old + (if added then 1 else 0)) }
         ensures err { OnErr result (self.new ≡ self.old) }
     {
         let other = self.places.put(item, false)?;
@@ -164,7 +169,8 @@ impl<T: Ord + Drop> Ordered<T> {
     /// Puts an item where it stands in order, in the place of an equal one, which it answers. Where memory runs out, all is as
     /// it was; to replace an item takes none.
     pub fn replace(&mut self, item: T) -> Result<Option<T>, AllocError>
-        ensures ok { IfOk result (λ before. IsPut (T.cmp item) self.old item true self.new before) }
+        ensures ok { IfOk result (λ before.
+            IsPut (T.cmp item) self.old item true self.new before) }
         ensures err { OnErr result (self.new ≡ self.old) }
     {
         self.places.put(item, true)
@@ -207,7 +213,8 @@ impl<T: Ord + Drop> Ordered<T> {
 
     /// Takes the least item.
     pub fn pop_first(&mut self) -> Option<T>
-        ensures { MatchOption result ((self.old ≡ []) × (self.new ≡ [])) (λ item. self.old ≡ item ∷ self.new) }
+        ensures { MatchOption result ((self.old ≡ []) × (self.new ≡ [])) (λ item.
+            self.old ≡ item ∷ self.new) }
     {
         if self.is_empty() {
             None
@@ -218,7 +225,8 @@ impl<T: Ord + Drop> Ordered<T> {
 
     /// Takes the greatest item.
     pub fn pop_last(&mut self) -> Option<T>
-        ensures { MatchOption result ((self.old ≡ []) × (self.new ≡ [])) (λ item. self.old ≡ self.new ++ item ∷ []) }
+        ensures { MatchOption result ((self.old ≡ []) × (self.new ≡ [])) (λ item.
+            self.old ≡ self.new ++ item ∷ []) }
     {
         if self.is_empty() {
             None

@@ -74,7 +74,8 @@ pub(crate) trait Part: Drop {
         requires room { is_full self.old ≡ false }
         requires divided { IsDivided (Self.Item.cmp item) (items self.old) }
         ensures kept { is_kept self.new }
-        ensures ok { IfOk result (λ other. IsPut (Self.Item.cmp item) (items self.old) item replaces (items self.new) other) }
+        ensures ok { IfOk result (λ other.
+            IsPut (Self.Item.cmp item) (items self.old) item replaces (items self.new) other) }
         ensures err { OnErr result (items self.new ≡ items self.old) };
 
     /// Puts an item in the place of another, which it answers.
@@ -115,8 +116,10 @@ pub(crate) trait Part: Drop {
         ensures ok { IfOk result (λ tail. items self.new ++ items tail ≡ items self.old) }
         ensures err { OnErr result (items self.new ≡ items self.old) }
         ensures kept { is_kept self.new }
-        ensures head { OnOk result (IsSound items is_kept self.new × (is_full self.new ≡ false)) }
-        ensures tail { IfOk result (λ tail. IsSound items is_kept tail × (is_full tail ≡ false)) };
+        ensures head { OnOk result (IsSound items is_kept self.new ×
+            (is_full self.new ≡ false)) }
+        ensures tail { IfOk result (λ tail. IsSound items is_kept tail ×
+            (is_full tail ≡ false)) };
 
     /// Takes the items of the next part behind its own. Where memory runs out, both stay.
     fn join(&mut self, next: Self) -> Result<(), Self>
@@ -141,7 +144,8 @@ pub(crate) trait Part: Drop {
         requires divided { IsDivided (Q.compare query) (items self.now) }
         requires between { IsBetween (Q.compare query) (items self.now) low high }
         ensures place { IsPlaceOf (Q.compare query) (items self.now) result }
-        ensures steps { (digits : ℕ) → high < low + 2 ^ digits → steps.new.count ≤ steps.old.count + digits }
+        ensures steps { (digits : ℕ) → high < low + 2 ^ digits →
+            steps.new.count ≤ steps.old.count + digits }
         ensures rising { steps.old.count ≤ steps.new.count };
 
     /// Where a query stands, or would stand. Smaller parts are told apart by their first items, and no place is looked up.

@@ -35,7 +35,8 @@ pub(crate) fn find_gap<P: Part>(parts: &[P], at: usize) -> (usize, usize)
     requires within { at ≤ length (flat_map P.items parts.now) }
     ensures part { result.0 < length parts.now }
     ensures place { length (flat_map P.items (take result.0 parts.now)) + result.1 ≡ at }
-    ensures within { (d : P) → result.1 ≤ length (P.items (slice_index_or parts.now result.0 d)) }
+    ensures within { (d : P) →
+        result.1 ≤ length (P.items (slice_index_or parts.now result.0 d)) }
 {
     if at == 0 {
         return (0, 0);
@@ -105,7 +106,8 @@ pub(crate) fn search<P: Part, Q: Query<P::Item>>(
     requires divided { IsDivided (Q.compare query) (flat_map P.items parts.now) }
     requires between { IsBetween (Q.compare query) (flat_map P.items parts.now) low high }
     ensures place { IsPlaceOf (Q.compare query) (flat_map P.items parts.now) result }
-    ensures steps { (digits : ℕ) → high < low + 2 ^ digits → steps.new.count ≤ steps.old.count + digits }
+    ensures steps { (digits : ℕ) → high < low + 2 ^ digits →
+        steps.new.count ≤ steps.old.count + digits }
     ensures rising { steps.old.count ≤ steps.new.count }
 {
     let mut from = low;

@@ -95,7 +95,8 @@ impl<T: Ord + Drop> Places<T> {
     /// put, and the other of the two is answered. Where memory runs out, the list is as it was.
     pub fn put(&mut self, item: T, replaces: bool) -> Result<Option<T>, AllocError>
         requires { IsDivided (T.cmp item) self.old }
-        ensures ok { IfOk result (λ other. IsPut (T.cmp item) self.old item replaces self.new other) }
+        ensures ok { IfOk result (λ other.
+            IsPut (T.cmp item) self.old item replaces self.new other) }
         ensures err { OnErr result (self.new ≡ self.old) }
     {
         let len = self.len();
@@ -108,7 +109,8 @@ impl<T: Ord + Drop> Places<T> {
     /// The same, where a search has found the place: where an equal item is there it takes no memory.
     fn put_by_place(&mut self, item: T, replaces: bool) -> Result<Option<T>, AllocError>
         requires { IsDivided (T.cmp item) self.old }
-        ensures ok { IfOk result (λ other. IsPut (T.cmp item) self.old item replaces self.new other) }
+        ensures ok { IfOk result (λ other.
+            IsPut (T.cmp item) self.old item replaces self.new other) }
         ensures err { OnErr result (self.new ≡ self.old) }
     {
         match self.locate(&item) {
@@ -180,7 +182,8 @@ impl<T: Ord + Drop> Places<T> {
     pub fn search<Q: Query<T>>(&self, query: Q, steps: &mut Steps) -> Result<usize, usize>
         requires { IsDivided (Q.compare query) self.now }
         ensures place { IsPlaceOf (Q.compare query) self.now result }
-        ensures steps { (digits : ℕ) → length self.now < 2 ^ digits → steps.new.count ≤ steps.old.count + digits }
+        ensures steps { (digits : ℕ) → length self.now < 2 ^ digits →
+            steps.new.count ≤ steps.old.count + digits }
         ensures rising { steps.old.count ≤ steps.new.count }
     {
         let len = self.len();

@@ -11,7 +11,8 @@ pub(crate) fn set<P: Part>(parts: &mut Vec<P>, at: usize, item: P::Item) -> P::I
     requires sound { All (IsSound P.items P.is_kept) parts.old.items }
     requires within { at < length (flat_map P.items parts.old.items) }
     ensures sound { All (IsSound P.items P.is_kept) parts.new.items }
-    ensures set { flat_map P.items parts.new.items ≡ set (flat_map P.items parts.old.items) at item }
+    ensures set { flat_map P.items parts.new.items ≡
+        set (flat_map P.items parts.old.items) at item }
     ensures parts { length parts.new.items ≡ length parts.old.items }
     ensures before { result ≡ slice_index_or (flat_map P.items parts.old.items) at result }
 {
@@ -25,9 +26,13 @@ fn set_in_part<P: Part>(parts: &mut Vec<P>, part: usize, place: usize, item: P::
     requires part { part < length parts.old.items }
     requires within { (d : P) → place < length (P.items (slice_index_or parts.old.items part d)) }
     ensures sound { All (IsSound P.items P.is_kept) parts.new.items }
-    ensures set { flat_map P.items parts.new.items ≡ set (flat_map P.items parts.old.items) (length (flat_map P.items (take part parts.old.items)) + place) item }
+    ensures set { flat_map P.items parts.new.items ≡
+        set (flat_map P.items parts.old.items)
+        (length (flat_map P.items (take part parts.old.items)) + place) item }
     ensures parts { length parts.new.items ≡ length parts.old.items }
-    ensures before { result ≡ slice_index_or (flat_map P.items parts.old.items) (length (flat_map P.items (take part parts.old.items)) + place) result }
+    ensures before { result ≡
+        slice_index_or (flat_map P.items parts.old.items)
+        (length (flat_map P.items (take part parts.old.items)) + place) result }
 {
     parts[part].set(place, item)
 }

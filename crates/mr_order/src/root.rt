@@ -44,7 +44,8 @@ impl<T: Ord + Drop> Root<T> {
         ensures kept { IsKeptRoot self.new }
         ensures same { root_items self.new ≡ root_items self.old }
         ensures room { OnOk result (HasRoom self.new) }
-        ensures few { IsSingle self.old → length (root_items self.old) < 64 → IsSingle self.new }
+        ensures few { IsSingle self.old → length (root_items self.old) < 64 →
+            IsSingle self.new }
     {
         let Root::Chunk(chunk) = self else {
             return Ok(());
@@ -66,7 +67,8 @@ impl<T: Ord + Drop> Root<T> {
         requires small { length (root_items self.old) < 2 ^ 63 }
         requires divided { IsDivided (Q.compare query) (root_items self.old) }
         ensures kept { IsKeptRoot self.new }
-        ensures taken { IsTaken (Q.compare query) (root_items self.old) result (root_items self.new) }
+        ensures taken { IsTaken (Q.compare query) (root_items self.old) result
+            (root_items self.new) }
     {
         match self {
             Root::Chunk(chunk) => Part::take(chunk, query),

@@ -16,7 +16,8 @@ pub(crate) fn seek<T: Ord, Q: Query<T>>(
     requires divided { IsDivided (Q.compare query) items.now }
     requires between { IsBetween (Q.compare query) items.now low high }
     ensures place { IsPlaceOf (Q.compare query) items.now result }
-    ensures steps { (digits : ℕ) → high < low + 2 ^ digits → steps.new.count ≤ steps.old.count + digits }
+    ensures steps { (digits : ℕ) → high < low + 2 ^ digits →
+        steps.new.count ≤ steps.old.count + digits }
     ensures rising { steps.old.count ≤ steps.new.count }
 {
     let mut from = low;

@@ -11,7 +11,8 @@ pub(crate) fn remove_from<P: Part>(parts: &mut Vec<P>, at: usize) -> P::Item
     requires sound { All (IsSound P.items P.is_kept) parts.old.items }
     requires within { at < length (flat_map P.items parts.old.items) }
     ensures sound { All (IsSound P.items P.is_kept) parts.new.items }
-    ensures removed { flat_map P.items parts.new.items ≡ remove (flat_map P.items parts.old.items) at }
+    ensures removed { flat_map P.items parts.new.items ≡
+        remove (flat_map P.items parts.old.items) at }
     ensures value { result ≡ slice_index_or (flat_map P.items parts.old.items) at result }
     ensures parts { length parts.new.items ≤ length parts.old.items }
 {
@@ -30,8 +31,12 @@ fn take_single<P: Part>(parts: &mut Vec<P>, part: usize) -> P::Item
     requires part { part < length parts.old.items }
     requires single { (d : P) → length (P.items (slice_index_or parts.old.items part d)) ≡ 1 }
     ensures sound { All (IsSound P.items P.is_kept) parts.new.items }
-    ensures removed { flat_map P.items parts.new.items ≡ remove (flat_map P.items parts.old.items) (length (flat_map P.items (take part parts.old.items))) }
-    ensures value { result ≡ slice_index_or (flat_map P.items parts.old.items) (length (flat_map P.items (take part parts.old.items))) result }
+    ensures removed { flat_map P.items parts.new.items ≡
+        remove (flat_map P.items parts.old.items)
+        (length (flat_map P.items (take part parts.old.items))) }
+    ensures value { result ≡
+        slice_index_or (flat_map P.items parts.old.items)
+        (length (flat_map P.items (take part parts.old.items))) result }
     ensures parts { length parts.new.items ≤ length parts.old.items }
 {
     let mut single = parts.remove(part);
@@ -46,8 +51,12 @@ fn take_from<P: Part>(parts: &mut Vec<P>, part: usize, place: usize) -> P::Item
     requires others { (d : P) → 1 < length (P.items (slice_index_or parts.old.items part d)) }
     ensures sound { All (IsSound P.items P.is_kept) parts.new.items }
     ensures parts { length parts.new.items ≡ length parts.old.items }
-    ensures removed { flat_map P.items parts.new.items ≡ remove (flat_map P.items parts.old.items) (length (flat_map P.items (take part parts.old.items)) + place) }
-    ensures value { result ≡ slice_index_or (flat_map P.items parts.old.items) (length (flat_map P.items (take part parts.old.items)) + place) result }
+    ensures removed { flat_map P.items parts.new.items ≡
+        remove (flat_map P.items parts.old.items)
+        (length (flat_map P.items (take part parts.old.items)) + place) }
+    ensures value { result ≡
+        slice_index_or (flat_map P.items parts.old.items)
+        (length (flat_map P.items (take part parts.old.items)) + place) result }
 {
     parts[part].remove(place)
 }
@@ -77,7 +86,8 @@ fn join_next<P: Part>(parts: &mut Vec<P>, part: usize)
     requires part { part + 1 < length parts.old.items }
     ensures sound { All (IsSound P.items P.is_kept) parts.new.items }
     ensures same { flat_map P.items parts.new.items ≡ flat_map P.items parts.old.items }
-    ensures parts { (length parts.new.items ≤ length parts.old.items) × (part < length parts.new.items) }
+    ensures parts { (length parts.new.items ≤ length parts.old.items) ×
+        (part < length parts.new.items) }
 {
     if !parts[part].fits(&parts[part + 1]) {
         return;

@@ -93,7 +93,8 @@ fn front_of(input: &[u8]) -> Front
 
 /// What a line says that begins with this byte and goes on with this text.
 fn said(mark: u8, text: &[u8]) -> Option<PeerLine<'_>>
-    ensures { MatchOption result ((line : Line) → Says (mark ∷ text.now) line → ⊥) (λ line. Says (mark ∷ text.now) (line_of line)) }
+    ensures { MatchOption result ((line : Line) → Says (mark ∷ text.now) line →
+        ⊥) (λ line. Says (mark ∷ text.now) (line_of line)) }
 {
     if mark == b'+' {
         return Some(PeerLine::Status(text));

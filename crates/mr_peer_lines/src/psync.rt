@@ -21,7 +21,8 @@ pub enum PsyncReply {
 
 /// What stands behind these bytes, if the text begins with them.
 fn behind<'a>(text: &'a [u8], front: &[u8]) -> Option<&'a [u8]>
-    ensures { MatchOption result ((rest : List ℕ) → text.now ≢ front.now ++ rest) (λ rest. text.now ≡ front.now ++ rest.now) }
+    ensures { MatchOption result ((rest : List ℕ) →
+        text.now ≢ front.now ++ rest) (λ rest. text.now ≡ front.now ++ rest.now) }
 {
     text.strip_prefix(front)
 }
@@ -36,7 +37,8 @@ fn first(text: &[u8], count: usize) -> &[u8]
 
 /// Reads an id, and an offset behind one space.
 fn read_place(text: &[u8]) -> Option<(ReplId, u64)>
-    ensures { MatchOption result ((id : List ℕ) (offset : ℕ) → IsPlaceText text.now id offset → ⊥) (λ place. IsPlaceText text.now place.0 place.1) }
+    ensures { MatchOption result ((id : List ℕ) (offset : ℕ) →
+        IsPlaceText text.now id offset → ⊥) (λ place. IsPlaceText text.now place.0 place.1) }
 {
     if text.len() < OFFSET_AT {
         return None;

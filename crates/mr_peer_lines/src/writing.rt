@@ -15,9 +15,11 @@ use std::alloc::AllocError;
 /// up to this offset in bytes. An `Err` changes nothing.
 pub fn write_full(id: ReplId, offset: u64, out: &mut Vec<u8>) -> Result<(), AllocError>
     requires { offset ≤ offset_limit }
-    ensures ok { OnOk result (out.new.items ≡ out.old.items ++ reply_line (reply.FullResync id offset)) }
+    ensures ok { OnOk result (out.new.items ≡
+        out.old.items ++ reply_line (reply.FullResync id offset)) }
     ensures err { OnErr result (out.new.items ≡ out.old.items) }
-    ensures says { SaysReply (reply_line (reply.FullResync id offset)) (reply.FullResync id offset) }
+    ensures says { SaysReply (reply_line (reply.FullResync id offset))
+        (reply.FullResync id offset) }
 {
     let _ = id.bytes();
     let digits = id.digits();
@@ -52,7 +54,8 @@ pub fn write_length(length: u64, out: &mut Vec<u8>) -> Result<(), AllocError>
 /// Appends all the pieces. An `Err` changes nothing.
 #[tactic(auto, using(mr_resp::proofs::AppendsLemmas::take_Extends))]
 fn write_pieces(pieces: &[&[u8]], out: &mut Vec<u8>) -> Result<(), AllocError>
-    ensures ok { OnOk result (out.new.items ≡ out.old.items ++ flat_map (λ piece. piece.now) pieces.now) }
+    ensures ok { OnOk result (out.new.items ≡
+        out.old.items ++ flat_map (λ piece. piece.now) pieces.now) }
     ensures err { OnErr result (out.new.items ≡ out.old.items) }
 {
     let start = out.len();
@@ -66,7 +69,8 @@ fn write_pieces(pieces: &[&[u8]], out: &mut Vec<u8>) -> Result<(), AllocError>
 /// Appends all the pieces. After an `Err` some of their bytes may stand behind what was there.
 #[tactic(auto, using(mr_resp::proofs::AppendsLemmas::Extends_steps))]
 fn push_pieces(pieces: &[&[u8]], out: &mut Vec<u8>) -> Result<(), AllocError>
-    ensures ok { OnOk result (out.new.items ≡ out.old.items ++ flat_map (λ piece. piece.now) pieces.now) }
+    ensures ok { OnOk result (out.new.items ≡
+        out.old.items ++ flat_map (λ piece. piece.now) pieces.now) }
     ensures kept { Extends out.old.items out.new.items }
 {
     for piece in pieces {

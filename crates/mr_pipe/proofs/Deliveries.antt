@@ -4,7 +4,7 @@ use Rattle.std.specs.Prelude.{Result, Ok, Err}
 use Rattle.std.specs.Io.KnownBytes.{Keeps}
 use Rattle.std.proofs.KnownBytes.{Appends-kept}
 use Rattle.mr_data.specs.declared.given.Given.{Given}
-use Rattle.mr_outs.specs.Outs.{no_output}
+use Rattle.mr_node_output.specs.Outs.{no_output}
 use Rattle.mr_node.specs.declared.fault.NodeFault.{NodeFault}
 use Rattle.mr_pipe.specs.Outside.{Outside, Change, IsSettled}
 use Rattle.mr_pipe.specs.State.{PipeState}

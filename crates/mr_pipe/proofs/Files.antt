@@ -5,7 +5,7 @@ use Rattle.std.proofs.KnownBytes.{Appends-nil, Appends-trans, Appends-kept}
 use Rattle.std.specs.Prelude.{Result, Ok, Err, OnOk, OnErr, IfErr, IsErrOf, true, false, ◌==◌}
 use Rattle.mr_aof.specs.declared.fault.LogFault.{LogFault}
 use Rattle.mr_aof.specs.declared.fault.LogFault.TheVariants as log_fault
-use Rattle.mr_outs.specs.Outs.{Output}
+use Rattle.mr_node_output.specs.Outs.{Output}
 use Rattle.mr_pipe.specs.Outside.{Kept, Outside, Change, appends, replaces, Made, Filed, Fails, IsTorn, IsBegun, IsSettled}
 use Rattle.mr_pipe.specs.Sessions.{changes_of}
 use Rattle.mr_pipe.specs.Serving.{IsCarriedOut}

@@ -7,7 +7,7 @@ use Rattle.mr_file.specs.declared.sync_mode.SyncMode.TheVariants.{Always}
 use Rattle.mr_resp.specs.Replies.{Tree}
 use Rattle.mr_effect.specs.Spelling.{texts}
 use Rattle.mr_effect.specs.declared.effect.Effect.{Effect}
-use Rattle.mr_entries.specs.Dataset.{Dataset}
+use Rattle.mr_keyspace.specs.Dataset.{Dataset}
 use Rattle.mr_data.specs.Rebuilding.{rebuilding}
 use Rattle.mr_data.specs.declared.given.Given.{Given}
 use Rattle.mr_groups.specs.Groups.{as_group, grown_text}
@@ -16,14 +16,14 @@ use Rattle.mr_groups.proofs.Runs.{leads_nowhere}
 use Rattle.mr_groups.proofs.Going.{makes_further}
 use Rattle.mr_groups.proofs.Singles.{leads_applied, makes_applied}
 use Rattle.mr_commands.specs.Transactions.{Frame, DoesAll}
-use Rattle.mr_language.proofs.GoodGroups.{good_effects, good_as_group, as_group_applied, as_group_texts}
-use Rattle.mr_language.proofs.Waited.{sound_all}
-use Rattle.mr_ends.specs.State.{Transaction}
-use Rattle.mr_outs.specs.Outs.{Output}
+use Rattle.law_minired.proofs.GoodGroups.{good_effects, good_as_group, as_group_applied, as_group_texts}
+use Rattle.law_minired.proofs.Waited.{sound_all}
+use Rattle.mr_node_links.specs.State.{Transaction}
+use Rattle.mr_node_output.specs.Outs.{Output}
 use Rattle.mr_cmd_node.specs.declared.node_ask.NodeAsk.{NodeAsk}
-use Rattle.mr_rows.specs.State.{Core}
-use Rattle.mr_rows.specs.Telling.{Around}
-use Rattle.mr_rows.specs.Served.{Served, Answered, IsQuiet}
+use Rattle.mr_node_spec.specs.State.{Core}
+use Rattle.mr_node_spec.specs.Telling.{Around}
+use Rattle.mr_node_spec.specs.Served.{Served, Answered, IsQuiet}
 use Rattle.mr_pipe.specs.Outside.{Kept, Outside, Change, changed, followed, appends, replaces, Filed, HasHalf, IsTorn, IsCovered}
 use Rattle.mr_pipe.specs.State.{PipeState}
 use Rattle.mr_pipe.specs.Sessions.{Moment, AreServed, Gives, IsServed, IsServedWithin, TakesRole, alone, changes_of, all_changes, frame_alone}

@@ -5,7 +5,7 @@ use Rattle.mr_file.specs.LogFile.{Rose}
 use Rattle.std.specs.Io.KnownBytes.{Consumes, Keeps}
 use Rattle.std.proofs.KnownBytes.{Consumes-nil, Consumes-kept, Consumes-trans, Appends-trans}
 use Rattle.mr_data.specs.declared.given.Given.{Given}
-use Rattle.mr_rows.specs.Requests.{Waits}
+use Rattle.mr_node_spec.specs.Requests.{Waits}
 use Rattle.mr_pipe.specs.Outside.{Kept, Outside, Change, Filed}
 use Rattle.mr_pipe.specs.State.{PipeState, Stands}
 use Rattle.mr_pipe.specs.Sessions.{all_changes}

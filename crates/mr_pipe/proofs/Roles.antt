@@ -4,16 +4,16 @@ use Rattle.mr_data.specs.Meaning.{apply_all}
 use Rattle.mr_data.specs.declared.given.Given.{Given}
 use Rattle.mr_effect.specs.Spelling.{texts}
 use Rattle.mr_effect.specs.declared.effect.Effect.{Effect}
-use Rattle.mr_entries.specs.Dataset.{Dataset}
+use Rattle.mr_keyspace.specs.Dataset.{Dataset}
 use Rattle.mr_cmd_node.specs.declared.node_ask.NodeAsk.{NodeAsk}
 use Rattle.mr_groups.specs.Groups.{grown_text}
 use Rattle.mr_commands.proofs.Replicas.{none_on_replica}
 use Rattle.mr_commands.proofs.Doing.{do_nothing, have_none}
-use Rattle.mr_ends.specs.State.{Transaction}
-use Rattle.mr_outs.specs.Outs.{Output, no_output}
-use Rattle.mr_rows.specs.State.{Core}
-use Rattle.mr_rows.specs.Requests.{Asks}
-use Rattle.mr_rows.specs.Served.{Answered, Served, IsQuiet}
+use Rattle.mr_node_links.specs.State.{Transaction}
+use Rattle.mr_node_output.specs.Outs.{Output, no_output}
+use Rattle.mr_node_spec.specs.State.{Core}
+use Rattle.mr_node_spec.specs.Requests.{Asks}
+use Rattle.mr_node_spec.specs.Served.{Answered, Served, IsQuiet}
 use Rattle.mr_pipe.specs.Outside.{Change}
 use Rattle.mr_pipe.specs.State.{PipeState}
 use Rattle.mr_pipe.specs.Sessions.{IsLast, IsServed, IsServedWithin, TakesRole, alone, changes_of, frame_alone}

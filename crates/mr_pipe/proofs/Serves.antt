@@ -1,13 +1,13 @@
 -- Requests one after another, and however the bytes are cut.
 use Rattle.std.proofs.Common.{◌≡◌, ℕ, List, [], ◌∷◌, ◌++◌, refl, sym, ap, subst, ◌∙◌, append_assoc}
 use Rattle.mr_data.specs.declared.given.Given.{Given}
-use Rattle.mr_outs.specs.Outs.{Output}
-use Rattle.mr_ends.specs.State.{Transaction}
-use Rattle.mr_rows.specs.State.{Core}
-use Rattle.mr_rows.specs.Requests.{Asks, AsksNothing}
-use Rattle.mr_rows.specs.Telling.{Around}
-use Rattle.mr_rows.specs.Served.{Served}
-use Rattle.mr_rows.specs.ReplicaRows.{IsExpected}
+use Rattle.mr_node_output.specs.Outs.{Output}
+use Rattle.mr_node_links.specs.State.{Transaction}
+use Rattle.mr_node_spec.specs.State.{Core}
+use Rattle.mr_node_spec.specs.Requests.{Asks, AsksNothing}
+use Rattle.mr_node_spec.specs.Telling.{Around}
+use Rattle.mr_node_spec.specs.Served.{Served}
+use Rattle.mr_node_spec.specs.ReplicaRows.{IsExpected}
 use Rattle.mr_pipe.specs.Outside.{Change}
 use Rattle.mr_pipe.specs.State.{PipeState}
 use Rattle.mr_pipe.specs.Sessions.{Moment, AreServed, IsServed, IsServedWithin, changes_of, all_changes}

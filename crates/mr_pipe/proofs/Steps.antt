@@ -12,24 +12,25 @@ use Rattle.mr_links.specs.declared.link_id.LinkId.{LinkId}
 use Rattle.mr_links.proofs.LinkRows.{ids_total, exact_ids}
 use Rattle.mr_effect.specs.declared.effect.Effect.{Effect}
 use Rattle.mr_data.specs.declared.given.Given.{Given}
-use Rattle.mr_entries.specs.Dataset.{Dataset}
-use Rattle.mr_course.specs.State.{name_of}
+use Rattle.mr_keyspace.specs.Dataset.{Dataset}
+use Rattle.mr_replication.specs.State.{name_of}
 use Rattle.mr_groups.specs.Groups.{grown_text}
 use Rattle.mr_resp.specs.Replies.{Tree}
 use Rattle.mr_commands.specs.Transactions.{DoesAll, coming}
 use Rattle.mr_commands.proofs.Doing.{do_so}
-use Rattle.mr_ends.specs.State.{Transaction, begun, streams}
-use Rattle.mr_ends.specs.State.EndState.{client}
-use Rattle.mr_ends.specs.Replicas.{Lists, is_named}
-use Rattle.mr_outs.specs.Outs.{OutsState, no_output}
+use Rattle.mr_node_links.specs.State.{Transaction, begun, streams}
+use Rattle.mr_node_links.specs.State.EndState.{client}
+use Rattle.mr_node_links.specs.Replicas.{Lists, is_named}
+use Rattle.mr_node_output.specs.Outs.{OutsState, no_output}
 use Rattle.mr_repl.specs.Backlog.{usual_backlog}
-use Rattle.mr_rows.specs.State.{Core, NodeState, Agrees, AgreesWithin, ReplicaAgrees, end_of, started}
-use Rattle.mr_rows.specs.Telling.{Around, IsAround, answer_about, link_of}
-use Rattle.mr_rows.specs.Served.{Served}
-use Rattle.mr_rows.specs.ClientRows.{ClientRow, Idles, IsAnswerToPsync}
-use Rattle.mr_rows.specs.Transactions.{StandsBy, DropsBy, WithinRow, frame_of}
-use Rattle.mr_rows.specs.ReplicaRows.{ReplicaRow}
-use Rattle.mr_rows.specs.LinkRows.{Feeds, Opens}
+use Rattle.mr_node_spec.specs.State.{Core, NodeState, Agrees, AgreesWithin, ReplicaAgrees, end_of, started}
+use Rattle.mr_node_spec.specs.Ends.{names_of}
+use Rattle.mr_node_spec.specs.Telling.{Around, IsAround, answer_about, link_of}
+use Rattle.mr_node_spec.specs.Served.{Served}
+use Rattle.mr_node_spec.specs.ClientRows.{ClientRow, Idles, IsAnswerToPsync}
+use Rattle.mr_node_spec.specs.Transactions.{StandsBy, DropsBy, WithinRow, frame_of}
+use Rattle.mr_node_spec.specs.ReplicaRows.{ReplicaRow}
+use Rattle.mr_node_spec.specs.LinkRows.{Feeds, Opens}
 use Rattle.mr_node.proofs.Ends.{get_other}
 use Rattle.mr_node.specs.Steps.{ClientStep, ReplicaStep, Steps}
 use Rattle.mr_node.specs.Within.{WithinStep}
@@ -157,14 +158,14 @@ client_goes g s u p b outs h k n (ClientRow.promotes r) =
     ∙ ap (λ id. record c { master = true; offers = true; upstream = None; mark = None; lineage = renamed id c.lineage }) (same_fresh p s u h)) in
     Goes.on (ap is_last r.outs_are) t r.rest
     (IsServed.takes_role k n r.words r.asks (TakesRole.promotes (sym (ap (λ (z : Core). z.master) h.core) ∙ r.replica) r.wish refl (ap output_of r.outs_are)))
-    (left p s t u r.rest b outs h core (r.ends.is ∙ sym (clients s None r.rest k n)) (λ x ne. r.ends.others x ne refl (not_followed p s u x h)) r.follow
+    (left p s t u r.rest b outs h core (r.ends.is ∙ sym (clients s None r.rest k n)) (λ x ne. r.ends.others x ne (ap (λ f. is_named (names_of (name_of f)) x) h.follow)) r.follow
     (ap (λ (o : OutsState). counted o.used p.used) r.outs_are ∙ (ap (λ m. min (m + 1) most_numbered) h.used ∙ same_number s.used)))
 client_goes g s u p b outs h k n (ClientRow.turns r) =
     let t : PipeState = record s { core = record s.core { upstream = Some r.address } } in
     Goes.on (ap is_last r.outs_are) t r.rest
     (IsServed.takes_role k n r.words r.asks (TakesRole.turns r.address (sym (ap (λ (z : Core). z.master) h.core) ∙ r.replica) r.wish (λ e. r.another (ap (λ (z : Core). z.upstream) h.core ∙ e)) refl (ap output_of r.outs_are)))
     (left p s t u r.rest b outs h (r.core ∙ ap (λ (z : Core). record z { upstream = Some r.address }) h.core) (r.ends.is ∙ sym (clients s None r.rest k n))
-    (λ x ne. r.ends.others x ne refl (not_followed p s u x h)) r.follow (uncounted p s u outs h (ap (λ (o : OutsState). o.used) r.outs_are)))
+    (λ x ne. r.ends.others x ne (ap (λ f. is_named (names_of (name_of f)) x) h.follow)) r.follow (uncounted p s u outs h (ap (λ (o : OutsState). o.used) r.outs_are)))
 client_goes g s u p b outs h k n (ClientRow.begins r) =
     let t : PipeState = record s { transaction = Some begun } in
     Goes.on (ap is_last r.outs_are) t r.rest
@@ -176,10 +177,7 @@ client_goes g s u p b outs h k n (ClientRow.demotes r) =
     Goes.on (ap is_last r.outs_are) t r.rest
     (IsServed.takes_role k n r.words r.asks (TakesRole.demotes r.address (sym (ap (λ (z : Core). z.master) h.core) ∙ r.master) r.wish refl (ap output_of r.outs_are)))
     (left p s t u r.rest b outs h (r.core ∙ ap (λ (z : Core). record z { master = false; offers = true; upstream = Some r.address; mark = None }) h.core) (r.ends.is ∙ sym (clients s None r.rest k n))
-    (λ x ne. r.ends.others x ne (ap (λ names. is_named names x) none) (none_is x)) r.follow (uncounted p s u outs h (ap (λ (o : OutsState). o.used) r.outs_are)))
-  where
-    none_is : (x : LinkId) → ◌≢◌ {A = Option LinkId} None (Some x)
-    none_is x e = cc
+    (λ x ne. r.ends.others x ne (ap (λ names. is_named names x) none)) r.follow (uncounted p s u outs h (ap (λ (o : OutsState). o.used) r.outs_are)))
 
 -- what waited is done here as at the node: nobody else is about
 done_alone : (g : Given) (s : PipeState) (u : List ℕ) (p : LinkedNode) (requests : List (List ℕ)) (replies : List Tree) (effects : List Effect) (n : Dataset) → Stands p s u → s.replica ≡ false

@@ -6,17 +6,17 @@ use Rattle.std.specs.FinMap.{empty}
 use Rattle.std.proofs.lemmas.List.{length-take-le, take_all}
 use Rattle.std.proofs.lemmas.List.Elements.{All-head}
 use Rattle.mr_effect.specs.declared.effect.Effect.{Effect}
-use Rattle.mr_entries.specs.Dataset.{Dataset}
+use Rattle.mr_keyspace.specs.Dataset.{Dataset}
 use Rattle.mr_data.specs.declared.given.Given.{Given}
 use Rattle.mr_replay.specs.Effects.{IsGoodEffect}
 use Rattle.mr_groups.specs.Groups.{IsGoodGroup, can_join, group_text, grown_text}
 use Rattle.mr_groups.specs.Folding.{LeadsByGroups, LoadsGroups, MakesByGroups}
 use Rattle.mr_groups.proofs.Runs.{some_is, torn_loads_none}
 use Rattle.mr_groups.proofs.Going.{makes_further, made_once}
-use Rattle.mr_language.proofs.GoodGroups.{good_as_group, good_effects}
-use Rattle.mr_language.proofs.Waited.{sound_all}
-use Rattle.mr_ends.specs.State.{Transaction}
-use Rattle.mr_outs.specs.Outs.{Output, no_output}
+use Rattle.law_minired.proofs.GoodGroups.{good_as_group, good_effects}
+use Rattle.law_minired.proofs.Waited.{sound_all}
+use Rattle.mr_node_links.specs.State.{Transaction}
+use Rattle.mr_node_output.specs.Outs.{Output, no_output}
 use Rattle.mr_pipe.specs.Outside.{Kept, Change, IsTorn, appends}
 use Rattle.mr_pipe.specs.State.{PipeState}
 use Rattle.mr_pipe.specs.Sessions.{IsServed, IsServedWithin, TakesRole, changes_of, frame_alone}

@@ -1,7 +1,7 @@
 -- What the file of a pipe folds to.
 use Rattle.std.specs.Prelude.{◌≡◌, ℕ, List, ◌++◌, Option, Some}
 use Rattle.std.specs.FinMap.{empty}
-use Rattle.mr_entries.specs.Dataset.{Dataset}
+use Rattle.mr_keyspace.specs.Dataset.{Dataset}
 use Rattle.mr_data.specs.declared.given.Given.{Given}
 use Rattle.mr_groups.specs.Folding.{LeadsByGroups, LeadsByItems, MakesByGroups}
 use Rattle.mr_file.specs.LogFile.{IsSynced}

@@ -4,10 +4,10 @@ use Rattle.std.specs.FinMap.{empty}
 use Rattle.std.specs.Io.KnownBytes.{Consumes, IsAtEnd}
 use Rattle.mr_file.specs.declared.sync_mode.SyncMode.TheVariants.{No}
 use Rattle.mr_repl.specs.Backlog.{usual_backlog}
-use Rattle.mr_entries.specs.Dataset.{Dataset}
+use Rattle.mr_keyspace.specs.Dataset.{Dataset}
 use Rattle.mr_data.specs.declared.given.Given.{Given}
-use Rattle.mr_rows.specs.State.{started}
-use Rattle.mr_rows.specs.Requests.{Waits}
+use Rattle.mr_node_spec.specs.State.{started}
+use Rattle.mr_node_spec.specs.Requests.{Waits}
 use Rattle.mr_pipe.specs.Outside.{Outside, Kept, IsSettled}
 use Rattle.mr_pipe.specs.State.{PipeState}
 use Rattle.mr_pipe.specs.Sessions.{Moment, AreServed, IsLast, all_changes}

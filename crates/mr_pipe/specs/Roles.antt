@@ -2,9 +2,9 @@
 use Rattle.std.specs.Prelude.{◌≡◌, ◌≢◌, ℕ, List, [], true, false, None, Some}
 use Rattle.mr_data.specs.declared.given.Given.{Given}
 use Rattle.mr_commands.specs.Requests.{rewrites}
-use Rattle.mr_outs.specs.Outs.{Output}
-use Rattle.mr_rows.specs.Requests.{Asks}
-use Rattle.mr_rows.specs.Growing.{rebuilt}
+use Rattle.mr_node_output.specs.Outs.{Output}
+use Rattle.mr_node_spec.specs.Requests.{Asks}
+use Rattle.mr_node_spec.specs.Growing.{rebuilt}
 use Rattle.mr_pipe.specs.State.{PipeState}
 use Rattle.mr_pipe.specs.Sessions.{Moment, AreServed, IsLast, IsServed, all_changes}
 

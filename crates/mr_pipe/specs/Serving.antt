@@ -2,8 +2,8 @@
 use Rattle.std.specs.Prelude.{◌≡◌, ℕ, List, Bool, true, false, Result, Ok, Err}
 use Rattle.std.specs.Io.KnownBytes.{Appends, Keeps}
 use Rattle.mr_data.specs.declared.given.Given.{Given}
-use Rattle.mr_outs.specs.Outs.{Output, no_output}
-use Rattle.mr_rows.specs.Requests.{Waits}
+use Rattle.mr_node_output.specs.Outs.{Output, no_output}
+use Rattle.mr_node_spec.specs.Requests.{Waits}
 use Rattle.mr_pipe.specs.Outside.{Outside, Filed, IsTorn, IsBegun, IsSettled}
 use Rattle.mr_pipe.specs.State.{PipeState, Stands}
 use Rattle.mr_pipe.specs.Sessions.{Moment, AreServed, Gives, IsLast, IsServed, all_changes, changes_of}

@@ -1,27 +1,27 @@
 -- What a client's requests get, one after another.
 use Rattle.std.specs.Prelude.{◌≡◌, ◌≢◌, ◌≤◌, ◌+◌, ℕ, ℤ, List, [], ◌∷◌, ◌++◌, Bool, true, false, not, ◌||◌, Some, None, length}
 use Rattle.mr_resp.specs.Replies.{Tree, array, reply_text}
-use Rattle.mr_entries.specs.Dataset.{Dataset}
+use Rattle.mr_keyspace.specs.Dataset.{Dataset}
 use Rattle.mr_effect.specs.declared.effect.Effect.{Effect}
 use Rattle.mr_data.specs.declared.given.Given.{Given}
 use Rattle.mr_repl.specs.Backlog.{offset_limit}
 use Rattle.mr_groups.specs.Groups.{grown_text}
 use Rattle.mr_cmd_node.specs.declared.node_ask.NodeAsk.TheVariants as node
-use Rattle.mr_room.specs.Answered.{done}
+use Rattle.mr_cmd_shared.specs.Answered.{done}
 use Rattle.mr_commands.specs.Requests.{AsksNode}
 use Rattle.mr_commands.specs.Transactions.{Frame, Coming as what, DoesAll, coming}
 use Rattle.mr_repl.specs.Lineage.{grown, renamed}
 use Rattle.mr_info.specs.declared.roles.MasterLink.TheVariants.{Connect}
-use Rattle.mr_outs.specs.Address.{AddressState}
-use Rattle.mr_ends.specs.State.{Transaction, begun}
-use Rattle.mr_outs.specs.Outs.{OutsState, Output, no_output, growth}
-use Rattle.mr_rows.specs.State.{Core}
-use Rattle.mr_rows.specs.Requests.{Asks, AsksNothing}
-use Rattle.mr_rows.specs.Telling.{Around, answer_about}
-use Rattle.mr_rows.specs.Served.{Served, says}
-use Rattle.mr_rows.specs.ClientRows.{AsksToHalt, Ends, IsAnswerToPsync}
-use Rattle.mr_rows.specs.Transactions.{StandsBy, DropsBy, as_trees}
-use Rattle.mr_rows.specs.ReplicaRows.{IsExpected, IsUnwanted}
+use Rattle.mr_node_output.specs.Address.{AddressState}
+use Rattle.mr_node_links.specs.State.{Transaction, begun}
+use Rattle.mr_node_output.specs.Outs.{OutsState, Output, no_output, growth}
+use Rattle.mr_node_spec.specs.State.{Core}
+use Rattle.mr_node_spec.specs.Requests.{Asks, AsksNothing}
+use Rattle.mr_node_spec.specs.Telling.{Around, answer_about}
+use Rattle.mr_node_spec.specs.Served.{Served, says}
+use Rattle.mr_node_spec.specs.ClientRows.{AsksToHalt, Ends, IsAnswerToPsync}
+use Rattle.mr_node_spec.specs.Transactions.{StandsBy, DropsBy, as_trees}
+use Rattle.mr_node_spec.specs.ReplicaRows.{IsExpected, IsUnwanted}
 use Rattle.mr_pipe.specs.Outside.{Change, appends, replaces}
 use Rattle.mr_pipe.specs.State.{PipeState, fresh_id}
 

@@ -2,9 +2,9 @@
 use Rattle.std.specs.Prelude.{◌≡◌, ◌≢◌, ◌+◌, ◌-◌, ◌^◌, ℕ, List, Bool, true, false, Option, None, Some, min}
 use Rattle.mr_repl.specs.ReplId.{id_of_number}
 use Rattle.mr_links.specs.declared.link_id.LinkId.{LinkId}
-use Rattle.mr_ends.specs.State.{EndState, Transaction}
-use Rattle.mr_ends.specs.State.EndState.{client, waiting, replica}
-use Rattle.mr_rows.specs.State.{Core, end_of}
+use Rattle.mr_node_links.specs.State.{EndState, Transaction}
+use Rattle.mr_node_links.specs.State.EndState.{client, waiting, replica}
+use Rattle.mr_node_spec.specs.State.{Core, end_of}
 use Rattle.mr_pipe.specs.declared.linked_node.LinkedNode.{LinkedNode}
 
 pub record PipeState : Type 0 where

@@ -1,10 +1,10 @@
 -- What an open transaction leaves alone, and what a file keeps of one.
 use Rattle.std.specs.Prelude.{◌≡◌, ◌≢◌, ◌⊎◌, ℕ, List, [], None, Some}
-use Rattle.mr_entries.specs.Dataset.{Dataset}
+use Rattle.mr_keyspace.specs.Dataset.{Dataset}
 use Rattle.mr_data.specs.declared.given.Given.{Given}
 use Rattle.mr_groups.specs.Folding.{LoadsGroups, MakesByGroups}
-use Rattle.mr_ends.specs.State.{Transaction}
-use Rattle.mr_outs.specs.Outs.{Output}
+use Rattle.mr_node_links.specs.State.{Transaction}
+use Rattle.mr_node_output.specs.Outs.{Output}
 use Rattle.mr_pipe.specs.Outside.{Kept, IsTorn}
 use Rattle.mr_pipe.specs.State.{PipeState}
 use Rattle.mr_pipe.specs.Sessions.{IsServed, IsServedWithin, changes_of}

@@ -8,13 +8,17 @@ ghost use Rattle.mr_pipe.specs.Sessions.{changes_of, output_of};
 use crate::fault::PipeFault;
 use mr_aof::Log;
 use mr_file::LogFile;
-use mr_outs::Outs;
+use mr_node_output::Outs;
 use std::io::{ErrorKind, Write};
 
 /// Appends texts to the file, where there are some.
 fn append<F: LogFile>(log: &mut Log<F>, texts: &[u8]) -> Result<(), PipeFault>
-    ensures filed { OnOk result (Filed (kept_of F.told F.synced F.failures log.old) (kept_of F.told F.synced F.failures log.new) (appends texts.now)) }
-    ensures torn { OnErr result (IsTorn (kept_of F.told F.synced F.failures log.old) (kept_of F.told F.synced F.failures log.new) (appends texts.now)) }
+    ensures filed { OnOk result
+        (Filed (kept_of F.told F.synced F.failures log.old)
+        (kept_of F.told F.synced F.failures log.new) (appends texts.now)) }
+    ensures torn { OnErr result
+        (IsTorn (kept_of F.told F.synced F.failures log.old)
+        (kept_of F.told F.synced F.failures log.new) (appends texts.now)) }
     ensures fault { IfErr result (λ e. e ≡ PipeFault.File) }
 {
     if texts.is_empty() {
@@ -28,8 +32,14 @@ fn append<F: LogFile>(log: &mut Log<F>, texts: &[u8]) -> Result<(), PipeFault>
 
 /// Replaces the file, where there is something to replace it by.
 fn replace<F: LogFile>(log: &mut Log<F>, whole: Option<&[u8]>) -> Result<(), PipeFault>
-    ensures filed { OnOk result (Filed (kept_of F.told F.synced F.failures log.old) (kept_of F.told F.synced F.failures log.new) (replaces (option_map (λ bytes. bytes.now) whole.entry))) }
-    ensures torn { OnErr result (IsTorn (kept_of F.told F.synced F.failures log.old) (kept_of F.told F.synced F.failures log.new) (replaces (option_map (λ bytes. bytes.now) whole.entry))) }
+    ensures filed { OnOk result
+        (Filed (kept_of F.told F.synced F.failures log.old)
+        (kept_of F.told F.synced F.failures log.new)
+        (replaces (option_map (λ bytes. bytes.now) whole.entry))) }
+    ensures torn { OnErr result
+        (IsTorn (kept_of F.told F.synced F.failures log.old)
+        (kept_of F.told F.synced F.failures log.new)
+        (replaces (option_map (λ bytes. bytes.now) whole.entry))) }
     ensures fault { IfErr result (λ e. e ≡ PipeFault.File) }
 {
     let Some(bytes) = whole else {
@@ -43,8 +53,12 @@ fn replace<F: LogFile>(log: &mut Log<F>, whole: Option<&[u8]>) -> Result<(), Pip
 
 /// Does to the file what a step gives out.
 pub(crate) fn change_file<F: LogFile>(log: &mut Log<F>, outs: &Outs) -> Result<(), PipeFault>
-    ensures filed { OnOk result (Filed (kept_of F.told F.synced F.failures log.old) (kept_of F.told F.synced F.failures log.new) (changes_of (output_of outs.now))) }
-    ensures torn { OnErr result (IsTorn (kept_of F.told F.synced F.failures log.old) (kept_of F.told F.synced F.failures log.new) (changes_of (output_of outs.now))) }
+    ensures filed { OnOk result
+        (Filed (kept_of F.told F.synced F.failures log.old)
+        (kept_of F.told F.synced F.failures log.new) (changes_of (output_of outs.now))) }
+    ensures torn { OnErr result
+        (IsTorn (kept_of F.told F.synced F.failures log.old)
+        (kept_of F.told F.synced F.failures log.new) (changes_of (output_of outs.now))) }
     ensures fault { IfErr result (λ e. e ≡ PipeFault.File) }
 {
     append(log, outs.appended())?;
@@ -54,8 +68,10 @@ pub(crate) fn change_file<F: LogFile>(log: &mut Log<F>, outs: &Outs) -> Result<(
 /// Writes once. None is written where the write was interrupted.
 fn write_some<W: Write>(output: &mut W, bytes: &[u8]) -> Result<usize, PipeFault>
     ensures within { IfOk result (λ n. n ≤ length bytes.now) }
-    ensures written { IfOk result (λ n. known.Appends (W.contents output.old) (W.contents output.new) (take n bytes.now)) }
-    ensures failed { OnErr result (known.Appends (W.contents output.old) (W.contents output.new) []) }
+    ensures written { IfOk result (λ n.
+        known.Appends (W.contents output.old) (W.contents output.new) (take n bytes.now)) }
+    ensures failed { OnErr result
+        (known.Appends (W.contents output.old) (W.contents output.new) []) }
     ensures fault { IfErr result (λ e. e ≡ PipeFault.Write) }
 {
     match output.write(bytes) {
@@ -72,8 +88,10 @@ fn write_some<W: Write>(output: &mut W, bytes: &[u8]) -> Result<usize, PipeFault
 
 /// Writes all bytes, in as many writes as it takes. After a fault a beginning of them is written.
 pub fn write_out<W: Write>(output: &mut W, bytes: &[u8]) -> Result<(), PipeFault>
-    ensures written { OnOk result (known.Appends (W.contents output.old) (W.contents output.new) bytes.now) }
-    ensures begun { OnErr result (IsBegun (W.contents output.old) (W.contents output.new) bytes.now) }
+    ensures written { OnOk result
+        (known.Appends (W.contents output.old) (W.contents output.new) bytes.now) }
+    ensures begun { OnErr result
+        (IsBegun (W.contents output.old) (W.contents output.new) bytes.now) }
     ensures fault { IfErr result (λ e. e ≡ PipeFault.Write) }
 {
     let mut at = 0;

@@ -7,7 +7,7 @@ use crate::fault::PipeFault;
 use mr_data::Dataset;
 use mr_links::LinkId;
 use mr_node::{Config, Node};
-use mr_outs::Outs;
+use mr_node_output::Outs;
 use mr_repl::{ReplId, USUAL_BACKLOG};
 use std::alloc::Global;
 
@@ -27,7 +27,8 @@ impl LinkedNode {
         dataset: Dataset,
     ) -> Result<LinkedNode, PipeFault>
         ensures stands { IfOk result (λ linked. Stands linked (begun_with id dataset) []) }
-        ensures fault { IfErr result (λ e. (e ≡ PipeFault.Memory) ⊎ (e ≡ PipeFault.Stopped)) }
+        ensures fault { IfErr result (λ e. (e ≡ PipeFault.Memory) ⊎
+            (e ≡ PipeFault.Stopped)) }
     {
         let Some(config) = Config::new(false, 0, USUAL_BACKLOG) else {
             unreachable!()

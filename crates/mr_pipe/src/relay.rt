@@ -32,7 +32,8 @@ pub(crate) enum Round {
 /// Reads once; None where the read was interrupted.
 pub fn read_piece<R: Read>(input: &mut R, buffer: &mut [u8]) -> Result<Option<usize>, PipeFault>
     requires { 0 < length buffer.old }
-    ensures read { IfOk result (λ count. IsRead (R.remaining input.old) (R.remaining input.new) buffer.new count) }
+    ensures read { IfOk result (λ count.
+        IsRead (R.remaining input.old) (R.remaining input.new) buffer.new count) }
     ensures failed { OnErr result (Keeps (R.remaining input.old) (R.remaining input.new)) }
     ensures fault { IfErr result (λ e. e ≡ PipeFault.Read) }
 {
@@ -57,8 +58,11 @@ fn serve_piece<F: LogFile, R: Read, W: Write>(
     output: &mut W,
 ) -> Result<Round, PipeFault>
     requires { 0 < length buffer.old }
-    ensures { (s : PipeState) (u : List ℕ) (x : Outside) → Drained given s u x linked.old (outside W.contents F.told F.synced F.failures output.old log.old)
-        → IsRound given s u x (R.remaining input.old) (R.remaining input.new) linked.new (outside W.contents F.told F.synced F.failures output.new log.new) result }
+    ensures { (s : PipeState) (u : List ℕ) (x : Outside) →
+        Drained given s u x linked.old
+        (outside W.contents F.told F.synced F.failures output.old log.old)
+        → IsRound given s u x (R.remaining input.old) (R.remaining input.new) linked.new
+        (outside W.contents F.told F.synced F.failures output.new log.new) result }
 {
     let room = linked.node.room(linked.link).unwrap_or(0);
     let most = room.min(buffer.len());
@@ -89,8 +93,10 @@ fn relay<F: LogFile, R: Read, W: Write>(
     output: &mut W,
 ) -> Result<(), PipeFault>
     requires { 0 < length buffer.old }
-    ensures { (s : PipeState) → Stands linked.old s [] → IsPiped given s (R.remaining input.old) (R.remaining input.new)
-        (outside W.contents F.told F.synced F.failures output.old log.old) (outside W.contents F.told F.synced F.failures output.new log.new) result }
+    ensures { (s : PipeState) → Stands linked.old s [] →
+        IsPiped given s (R.remaining input.old) (R.remaining input.new)
+        (outside W.contents F.told F.synced F.failures output.old log.old)
+        (outside W.contents F.told F.synced F.failures output.new log.new) result }
 {
     for _round in 0..u64::MAX {
         match serve_piece(linked, given, log, input, buffer, output)? {
@@ -119,8 +125,10 @@ pub fn pipe_with<F: LogFile, R: Read, W: Write>(
     input: &mut R,
     output: &mut W,
 ) -> Result<(), PipeFault>
-    ensures { IsPiped config.now.given (begun_with config.now.id dataset) (R.remaining input.old) (R.remaining input.new)
-        (outside W.contents F.told F.synced F.failures output.old log.old) (outside W.contents F.told F.synced F.failures output.new log.new) result }
+    ensures { IsPiped config.now.given (begun_with config.now.id dataset) (R.remaining input.old)
+        (R.remaining input.new)
+        (outside W.contents F.told F.synced F.failures output.old log.old)
+        (outside W.contents F.told F.synced F.failures output.new log.new) result }
 {
     let Ok(mut buffer) = vec![in alloc; 0u8; PIECE] else {
         return Err(PipeFault::Memory);
@@ -144,7 +152,9 @@ pub fn pipe<R: Read, W: Write>(
     input: &mut R,
     output: &mut W,
 ) -> Result<(), PipeFault>
-    ensures piped { IsPipedAlone config.now.given (begun_empty config.now.id) (R.remaining input.old) (R.remaining input.new) (W.contents output.old) (W.contents output.new) result }
+    ensures piped { IsPipedAlone config.now.given (begun_empty config.now.id)
+        (R.remaining input.old) (R.remaining input.new) (W.contents output.old)
+        (W.contents output.new) result }
     ensures no_file { IsErrOf result PipeFault.File → ⊥ }
 {
     let mut log = Log::none();

@@ -12,7 +12,7 @@ use mr_aof::Log;
 use mr_data::Given;
 use mr_file::LogFile;
 use mr_node::Step;
-use mr_outs::Outs;
+use mr_node_output::Outs;
 use std::io::Write;
 
 /// What one step came to.
@@ -33,7 +33,9 @@ fn carry_out<F: LogFile, W: Write>(
     log: &mut Log<F>,
     output: &mut W,
 ) -> Result<(), PipeFault>
-    ensures { IsCarriedOut (output_of outs.now) (outside W.contents F.told F.synced F.failures output.old log.old) (outside W.contents F.told F.synced F.failures output.new log.new) result }
+    ensures { IsCarriedOut (output_of outs.now)
+        (outside W.contents F.told F.synced F.failures output.old log.old)
+        (outside W.contents F.told F.synced F.failures output.new log.new) result }
 {
     change_file(log, outs)?;
     write_out(output, outs.reply())
@@ -53,7 +55,9 @@ fn step_once<F: LogFile, W: Write>(
     log: &mut Log<F>,
     output: &mut W,
 ) -> Result<Stepped, PipeFault>
-    ensures { (s : PipeState) (u : List ℕ) → Stands linked.old s u → IsStepped given s u (outside W.contents F.told F.synced F.failures output.old log.old) linked.new (outside W.contents F.told F.synced F.failures output.new log.new) result }
+    ensures { (s : PipeState) (u : List ℕ) → Stands linked.old s u →
+        IsStepped given s u (outside W.contents F.told F.synced F.failures output.old log.old)
+        linked.new (outside W.contents F.told F.synced F.failures output.new log.new) result }
 {
     let fresh = linked.fresh();
     match linked.node.step(linked.link, given, fresh)? {
@@ -79,7 +83,9 @@ fn drain<F: LogFile, W: Write>(
     log: &mut Log<F>,
     output: &mut W,
 ) -> Result<bool, PipeFault>
-    ensures { (s : PipeState) (u : List ℕ) → Stands linked.old s u → IsDrained given s u (outside W.contents F.told F.synced F.failures output.old log.old) linked.new (outside W.contents F.told F.synced F.failures output.new log.new) result }
+    ensures { (s : PipeState) (u : List ℕ) → Stands linked.old s u →
+        IsDrained given s u (outside W.contents F.told F.synced F.failures output.old log.old)
+        linked.new (outside W.contents F.told F.synced F.failures output.new log.new) result }
 {
     for _step in 0..u64::MAX {
         match step_once(linked, given, log, output)? {
@@ -100,8 +106,11 @@ fn serve_bytes<F: LogFile, W: Write>(
     log: &mut Log<F>,
     output: &mut W,
 ) -> Result<bool, PipeFault>
-    ensures { (s : PipeState) (u : List ℕ) (x : Outside) → Going given s u x linked.old (outside W.contents F.told F.synced F.failures output.old log.old)
-        → IsDrained given s (u ++ bytes.now) x linked.new (outside W.contents F.told F.synced F.failures output.new log.new) result }
+    ensures { (s : PipeState) (u : List ℕ) (x : Outside) →
+        Going given s u x linked.old
+        (outside W.contents F.told F.synced F.failures output.old log.old)
+        → IsDrained given s (u ++ bytes.now) x linked.new
+        (outside W.contents F.told F.synced F.failures output.new log.new) result }
 {
     linked.node.feed(linked.link, bytes)?;
     drain(linked, given, log, output)
@@ -115,8 +124,11 @@ pub(crate) fn deliver<F: LogFile, W: Write>(
     log: &mut Log<F>,
     output: &mut W,
 ) -> Result<bool, PipeFault>
-    ensures { (s : PipeState) (u : List ℕ) (x : Outside) → Going given s u x linked.old (outside W.contents F.told F.synced F.failures output.old log.old)
-        → IsDrained given s (u ++ bytes.now) x linked.new (outside W.contents F.told F.synced F.failures output.new log.new) result }
+    ensures { (s : PipeState) (u : List ℕ) (x : Outside) →
+        Going given s u x linked.old
+        (outside W.contents F.told F.synced F.failures output.old log.old)
+        → IsDrained given s (u ++ bytes.now) x linked.new
+        (outside W.contents F.told F.synced F.failures output.new log.new) result }
 {
     let goes_on = serve_bytes(linked, given, bytes, log, output)?;
     if output.flush().is_err() {

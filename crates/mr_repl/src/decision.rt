@@ -29,7 +29,8 @@ pub fn decide(id: &[u8], wanted: i64, standing: &Standing) -> PsyncAnswer
 
 /// Whether the backlog holds the byte at this offset and all after it, or it is the next byte.
 fn is_held(from: u64, standing: &Standing) -> bool
-    ensures { IsTrue result ↔ ((standing.now.first ≤ from) × (from ≤ standing.now.offset + 1)) }
+    ensures { IsTrue result ↔
+        ((standing.now.first ≤ from) × (from ≤ standing.now.offset + 1)) }
 {
     standing.first <= from && from.saturating_sub(1) <= standing.offset
 }

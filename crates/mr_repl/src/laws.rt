@@ -17,7 +17,8 @@ pub fn cuts_do_not_matter()
 
 /// No two ids have the same text.
 pub fn texts_are_of_one_id()
-    ensures { (one other : List ℕ) → IsId one → IsId other → digits_of one ≡ digits_of other → one ≡ other }
+    ensures { (one other : List ℕ) → IsId one → IsId other →
+        digits_of one ≡ digits_of other → one ≡ other }
 {}
 
 /// The texts of ids are those of forty lower-case hexadecimal digits.

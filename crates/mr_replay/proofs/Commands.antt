@@ -15,11 +15,11 @@ use Rattle.mr_effect.specs.Effects.{has_spelling, words_fit}
 use Rattle.mr_effect.specs.Spelling.{words, text, IsSpelled, FindsEach}
 use Rattle.mr_effect.specs.declared.effect.Effect.{Effect}
 use Rattle.mr_effect.proofs.Texts.{command_text}
-use Rattle.mr_entries.specs.Dataset.{Dataset}
-use Rattle.mr_entries.specs.Changes.{change}
-use Rattle.mr_entries.specs.declared.fault.ApplyFault.{ApplyFault}
-use Rattle.mr_entries.specs.declared.fault.ApplyFault.TheVariants.{Refused, Memory}
-use Rattle.mr_entries.specs.Changes.{NeedsNoMemory}
+use Rattle.mr_keyspace.specs.Dataset.{Dataset}
+use Rattle.mr_keyspace.specs.Changes.{change}
+use Rattle.mr_keyspace.specs.declared.fault.ApplyFault.{ApplyFault}
+use Rattle.mr_keyspace.specs.declared.fault.ApplyFault.TheVariants.{Refused, Memory}
+use Rattle.mr_keyspace.specs.Changes.{NeedsNoMemory}
 use Rattle.mr_data.specs.Meaning.{apply}
 use Rattle.mr_replay.specs.Effects.{IsGoodEffect, IsStuckForGood}
 use Rattle.mr_replay.specs.Steps.{DoesWords, RefusesWords, SpendsWords, SpendsFirst, DoesFirst, Waits, TriesEffect, TriesWords, TriesCommand, TriesFirst}

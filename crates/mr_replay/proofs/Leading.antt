@@ -6,7 +6,7 @@ use Rattle.mr_resp.specs.Usual.{commands-words}
 use Rattle.mr_effect.specs.Spelling.{words, text, texts, IsShort}
 use Rattle.mr_effect.specs.declared.effect.Effect.{Effect}
 use Rattle.mr_effect.proofs.Texts.{one_text}
-use Rattle.mr_entries.specs.Dataset.{Dataset}
+use Rattle.mr_keyspace.specs.Dataset.{Dataset}
 use Rattle.mr_data.specs.Meaning.{apply, apply_all}
 use Rattle.mr_replay.specs.Effects.{IsGoodEffect, Leads}
 

@@ -1,3 +1,4 @@
 pub mod Commands
+pub mod Knowing
 pub mod Leading
 pub mod Pieces

@@ -3,7 +3,7 @@ use Rattle.std.proofs.Common.{◌≡◌, ℕ, ◌<◌, ◌≤◌, ◌+◌, ◌-�
 use Rattle.std.proofs.lemmas.List.{length-take-le, length-drop, take_all}
 use Rattle.std.proofs.Common.{take-add}
 use Rattle.mr_effect.specs.Spelling.{text}
-use Rattle.mr_entries.specs.Dataset.{Dataset}
+use Rattle.mr_keyspace.specs.Dataset.{Dataset}
 use Rattle.mr_replay.specs.Effects.{Leads}
 use Rattle.mr_replay.specs.Steps.{DoesFirst, TriesFirst, IsHalt, Replays}
 use Rattle.mr_replay.specs.declared.replaying.Step.{Step}

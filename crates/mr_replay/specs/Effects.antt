@@ -4,7 +4,7 @@ use Rattle.std.specs.FinMap.{empty}
 use Rattle.mr_effect.specs.Effects.{words_fit, has_spelling}
 use Rattle.mr_effect.specs.Spelling.{IsShort, text, texts}
 use Rattle.mr_effect.specs.declared.effect.Effect.{Effect}
-use Rattle.mr_entries.specs.Dataset.{Dataset}
+use Rattle.mr_keyspace.specs.Dataset.{Dataset}
 use Rattle.mr_data.specs.Meaning.{apply, apply_all}
 
 -- an effect whose text is a command text: it is spelled by its words, each fits, and they aren't too many

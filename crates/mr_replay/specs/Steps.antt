@@ -4,11 +4,13 @@ use Rattle.std.specs.FinMap.{empty}
 use Rattle.mr_map.specs.Bytes.{Bytes}
 use Rattle.mr_inline.specs.Language.{Continues}
 use Rattle.mr_resp.specs.Command.{IsCommandText, BeginsWithCommand}
+use Rattle.mr_resp.specs.Resumed.{KnowsNothing}
 use Rattle.mr_resp.specs.Usual.{commands}
+use Rattle.mr_resp.specs.declared.progress.CommandProgress.{CommandProgress}
 use Rattle.mr_effect.specs.Spelling.{text, IsSpelled}
 use Rattle.mr_effect.specs.declared.effect.Effect.{Effect}
-use Rattle.mr_entries.specs.Dataset.{Dataset}
-use Rattle.mr_entries.specs.Changes.{NeedsNoMemory}
+use Rattle.mr_keyspace.specs.Dataset.{Dataset}
+use Rattle.mr_keyspace.specs.Changes.{NeedsNoMemory}
 use Rattle.mr_data.specs.Meaning.{apply}
 use Rattle.mr_replay.specs.Effects.{IsGoodEffect, Leads, IsStuck, IsStuckForGood}
 use Rattle.mr_replay.specs.declared.replaying.Step.{Step}
@@ -85,6 +87,21 @@ TriesFirst bytes old new step.Wait = (new ≡ old) × Waits old bytes
 TriesFirst bytes old new step.Stop = (new ≡ old) × IsStuckForGood old bytes
 TriesFirst bytes old new step.Lack = (new ≡ old) × BeginsWithCommand commands bytes
 TriesFirst bytes old new step.Spent = SpendsFirst bytes old new
+
+-- Nothing is known of the text that comes next, where one was used or none can come.
+abbrev pub IsKnownAfter : CommandProgress → Step → Type 0
+IsKnownAfter progress (step.Done used) = KnowsNothing progress
+IsKnownAfter progress step.Wait = Unit {0}
+IsKnownAfter progress step.Stop = KnowsNothing progress
+IsKnownAfter progress step.Lack = Unit {0}
+IsKnownAfter progress step.Spent = KnowsNothing progress
+
+-- .. so it is where no more can be done
+abbrev pub IsKnownBehind : CommandProgress → Halt → Type 0
+IsKnownBehind progress halt.Open = Unit {0}
+IsKnownBehind progress halt.Bad = KnowsNothing progress
+IsKnownBehind progress halt.Lack = Unit {0}
+IsKnownBehind progress halt.Spent = KnowsNothing progress
 
 -- why no more was done behind effects that led to a dataset, and the dataset then
 abbrev pub IsHalt : Dataset → List ℕ → Halt → Dataset → Type 0

@@ -1,11 +1,12 @@
 // Texts of effects at the front of bytes, done to a dataset.
-ghost use Rattle.std.specs.Prelude.{map};
+ghost use Rattle.std.specs.Prelude.{ℕ, ◌++◌, List, drop, map};
 ghost use Rattle.std.specs.Cow.{cow_slice_items};
-ghost use Rattle.mr_replay.specs.Steps.{TriesCommand, TriesFirst, Replays};
+ghost use Rattle.mr_resp.specs.Resumed.{AgreesCommand, MayAgree};
+ghost use Rattle.mr_replay.specs.Steps.{IsKnownAfter, IsKnownBehind, TriesCommand, TriesFirst, Replays};
 
 use crate::trying::{Tried, try_words};
 use mr_data::Dataset;
-use mr_resp::{Scan, next_command};
+use mr_resp::{CommandProgress, Scan, next_command_from};
 use std::alloc::Global;
 use std::borrow::CowSlice;
 
@@ -51,7 +52,8 @@ fn try_command(
     words: Vec<CowSlice<'_, u8>>,
     used: usize,
 ) -> Step
-    ensures { TriesCommand (map cow_slice_items words.entry.items) used dataset.old dataset.new result }
+    ensures { TriesCommand (map cow_slice_items words.entry.items) used dataset.old dataset.new
+        result }
 {
     match try_words(alloc, words.as_slice(), dataset) {
         Tried::Done => Step::Done(used),
@@ -61,12 +63,20 @@ fn try_command(
     }
 }
 
-/// Does the effect whose text begins the bytes, where one does.
+/// Does the effect whose text begins the bytes, where one does. What is known of a text that isn't whole is kept.
 #[tactic(auto, using(crate::proofs::Commands::tries_front, crate::proofs::Commands::waits, crate::proofs::Commands::stops))]
-fn try_first(alloc: Global, dataset: &mut Dataset, bytes: &[u8]) -> Step
-    ensures { TriesFirst bytes.now dataset.old dataset.new result }
+fn try_first(
+    alloc: Global,
+    dataset: &mut Dataset,
+    progress: &mut CommandProgress,
+    bytes: &[u8],
+) -> Step
+    requires { MayAgree progress.old bytes.now }
+    ensures tried { TriesFirst bytes.now dataset.old dataset.new result }
+    ensures known { (more : List ℕ) → AgreesCommand progress.new (bytes.now ++ more) }
+    ensures after { IsKnownAfter progress.new result }
 {
-    match next_command(alloc, bytes) {
+    match next_command_from(alloc, progress, bytes) {
         Err(_) => Step::Lack,
         Ok(Scan::Whole { words, used }) => try_command(alloc, dataset, words, used),
         Ok(Scan::Skip { used: _ }) => unreachable!(),
@@ -75,13 +85,23 @@ fn try_first(alloc: Global, dataset: &mut Dataset, bytes: &[u8]) -> Step
     }
 }
 
-/// Does the effects whose texts begin the bytes, as long as they can be applied.
-pub fn replay_front(alloc: Global, dataset: &mut Dataset, bytes: &[u8]) -> Replayed
-    ensures { Replays bytes.now result.used dataset.old dataset.new result.halt }
+/// Does the effects whose texts begin the bytes, as long as they can be applied. What is known of the first text stands in
+/// `progress`, and then what is known of the one that begins what is left: with anything behind it that may be handed in again.
+pub fn replay_front(
+    alloc: Global,
+    dataset: &mut Dataset,
+    progress: &mut CommandProgress,
+    bytes: &[u8],
+) -> Replayed
+    requires { MayAgree progress.old bytes.now }
+    ensures done { Replays bytes.now result.used dataset.old dataset.new result.halt }
+    ensures known { (more : List ℕ) →
+        AgreesCommand progress.new (drop result.used bytes.now ++ more) }
+    ensures behind { IsKnownBehind progress.new result.halt }
 {
     let mut used = 0;
     'texts: loop {
-        let step = try_first(alloc, dataset, &bytes[used..]);
+        let step = try_first(alloc, dataset, progress, &bytes[used..]);
         match step {
             Step::Done(more) => used += more,
             Step::Wait => {

@@ -22,7 +22,8 @@ fn words_of<'a>(
     count: usize,
 ) -> Result<Vec<CowSlice<'a, u8>>, AllocError>
     requires { (used : ℕ) × IsMeasured limits.now input.now count first used }
-    ensures words { IfOk result (λ v. (used : ℕ) → IsMeasured limits.now input.now count first used
+    ensures words { IfOk result (λ v. (used : ℕ) →
+        IsMeasured limits.now input.now count first used
         → IsArray limits.now (take used input.now) (map cow_slice_items v.items)) }
     ensures borrowed { IfOk result (λ v. All IsBorrowedSlice v.items) }
 {

@@ -39,7 +39,9 @@ pub(crate) struct WholeRequest<'a> {
 #[inline]
 fn ends_at(input: &[u8], at: usize) -> bool
     requires { at ≤ length input.now }
-    ensures { IsTrue result → (at + 2 ≤ length input.now) × (drop at input.now ≡ line_end ++ drop (at + 2) input.now) }
+    ensures { IsTrue result →
+        (at + 2 ≤ length input.now) ×
+        (drop at input.now ≡ line_end ++ drop (at + 2) input.now) }
 {
     if input.len() - at < 2 {
         return false;
@@ -54,7 +56,8 @@ fn ends_at(input: &[u8], at: usize) -> bool
 #[inline]
 fn short_number_at(input: &[u8], at: usize) -> Option<Number>
     requires { at ≤ length input.now }
-    ensures { IfSome result (λ n. (n.next ≤ length input.now) × (0 < n.value) × (n.value < 10000000000)
+    ensures { IfSome result (λ n. (n.next ≤ length input.now) × (0 < n.value) ×
+        (n.value < 10000000000)
         × (drop at input.now ≡ number_line n.value ++ drop n.next input.now)) }
 {
     if at == input.len() {
@@ -84,7 +87,8 @@ fn short_number_at(input: &[u8], at: usize) -> Option<Number>
 fn short_word_at(input: &[u8], at: usize, most: usize) -> Option<Place>
     requires { at ≤ length input.now }
     ensures { IfSome result (λ w. (w.start ≤ w.end) × (w.end + 2 ≤ length input.now)
-        × (drop at input.now ≡ bulk (slice_range input.now w.start w.end) ++ drop (w.end + 2) input.now)
+        × (drop at input.now ≡
+        bulk (slice_range input.now w.start w.end) ++ drop (w.end + 2) input.now)
         × (length (slice_range input.now w.start w.end) ≤ most)) }
 {
     if at == input.len() || input[at] != b'$' {

@@ -91,7 +91,8 @@ fn moment(millis: u128) -> i64
 fn at_half_pace(from: i64, then: Instant, now: Instant) -> i64
     requires { IsMoment from }
     ensures moment { IsMoment result }
-    ensures pace { result ≡ at_half_pace from ((instant_nanos now - instant_nanos then) / 1_000_000) }
+    ensures pace { result ≡
+        at_half_pace from ((instant_nanos now - instant_nanos then) / 1_000_000) }
 {
     let half = now.duration_since(then).as_millis() / 2;
     let left = LAST_MOMENT - from;

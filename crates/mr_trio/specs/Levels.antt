@@ -3,7 +3,7 @@ use Rattle.std.specs.Prelude.{◌≡◌, ◌⊎◌, ℕ, Some}
 use Rattle.mr_console.specs.Naming.{host}
 use Rattle.mr_node.specs.Parts.{role_of}
 use Rattle.mr_node.specs.declared.role.Role.TheVariants as role
-use Rattle.mr_rows.specs.State.{NodeState, shown}
+use Rattle.mr_node_spec.specs.State.{NodeState, shown}
 
 -- a node, and the port that it listens on
 pub record Listening : Type 0 where

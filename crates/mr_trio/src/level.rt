@@ -1,17 +1,18 @@
 // Whether a replica has what its master has.
 ghost use Rattle.std.specs.Prelude.{◌≡◌, IsTrue};
 ghost use Rattle.mr_console.specs.Naming.{host};
-ghost use Rattle.mr_rows.specs.State.{shown};
+ghost use Rattle.mr_node_spec.specs.State.{shown};
 ghost use Rattle.mr_trio.specs.Levels.{IsAt};
 
 use crate::member::Member;
 use mr_console::HOST;
-use mr_outs::Address;
+use mr_node_output::Address;
 use mr_repl::ReplId;
 
 /// Whether a replica was told to follow this node, and shows what it shows.
 pub(crate) fn is_at(replica: &Member, master: &Member) -> bool
-    ensures { IsTrue result → IsAt replica.now.node (record { node = master.now.node; port = master.now.port }) }
+    ensures { IsTrue result →
+        IsAt replica.now.node (record { node = master.now.node; port = master.now.port }) }
 {
     let Some(address) = replica.upstream() else {
         return false;

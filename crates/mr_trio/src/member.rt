@@ -3,7 +3,7 @@ ghost use Rattle.std.specs.Prelude.{◌≡◌, [], IfErr, IsErrOf, option_copied
 ghost use Rattle.mr_console.specs.Faults.{IsInner};
 ghost use Rattle.mr_file.specs.LogFile.{Rose};
 ghost use Rattle.mr_node.specs.Parts.{role_of};
-ghost use Rattle.mr_rows.specs.State.{shown};
+ghost use Rattle.mr_node_spec.specs.State.{shown};
 
 use crate::eager_wire::EagerWire;
 use crate::faults::of_loop;
@@ -13,7 +13,7 @@ use mr_console::TrioFault;
 use mr_data::Dataset;
 use mr_loop::{Links, turn};
 use mr_node::{Config, Node, Role};
-use mr_outs::Address;
+use mr_node_output::Address;
 use mr_repl::{ReplId, USUAL_BACKLOG};
 use mr_source::Source;
 use mr_wire::SocketWire;
@@ -75,7 +75,8 @@ impl Member {
     pub(crate) fn turn(&mut self, source: &mut NumberedSource) -> Result<(), TrioFault>
         ensures fault { IfErr result IsInner }
         ensures port { self.new.port ≡ self.old.port }
-        ensures socket { IsErrOf result TrioFault.Socket → Rose self.old.wire.wire.failed.count self.new.wire.wire.failed.count }
+        ensures socket { IsErrOf result TrioFault.Socket →
+            Rose self.old.wire.wire.failed.count self.new.wire.wire.failed.count }
         ensures stopped { IsErrOf result TrioFault.Stopped → self.new.node.core.up ≡ false }
     {
         if self.over {

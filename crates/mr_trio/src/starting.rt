@@ -16,7 +16,8 @@ pub fn trio<R: BufRead, W: Write>(
     input: &mut R,
     output: &mut W,
 ) -> Result<(), TrioFault>
-    ensures { PlaysScript (R.remaining input.old) (R.remaining input.new) (W.contents output.old) (W.contents output.new) result }
+    ensures { PlaysScript (R.remaining input.old) (R.remaining input.new) (W.contents output.old)
+        (W.contents output.new) result }
 {
     match Three::start(rt, alloc, seed) {
         Ok(mut three) => play(alloc, &mut three, input, output),

@@ -130,7 +130,8 @@ impl Three {
     /// A turn of the client and of each node. It answers the reply of the node there, where all of it came and each replica is level.
     fn turn(&mut self, place: Place) -> Result<Option<Vec<u8>>, TrioFault>
         ensures reply { IfOk result (λ reply. IfSome reply (λ text. IsReply text.items)) }
-        ensures level { IfOk result (λ reply. IfSome reply (λ text. AllLevel (trio_of self.new))) }
+        ensures level { IfOk result (λ reply.
+            IfSome reply (λ text. AllLevel (trio_of self.new))) }
         ensures fault { IfErr result IsInner }
     {
         match self.turn_each(place) {
@@ -188,7 +189,10 @@ impl Three {
 
     /// Whether a replica follows one of the three, and shows what that one shows.
     fn has_master(&self, replica: &Member) -> bool
-        ensures { IsTrue result → IsAt replica.now.node (trio_of self.now).first ⊎ (IsAt replica.now.node (trio_of self.now).second ⊎ IsAt replica.now.node (trio_of self.now).third) }
+        ensures { IsTrue result →
+            IsAt replica.now.node (trio_of self.now).first ⊎
+            (IsAt replica.now.node (trio_of self.now).second ⊎
+            IsAt replica.now.node (trio_of self.now).third) }
     {
         if is_at(replica, &self.first) {
             return true;

@@ -250,7 +250,8 @@ fn few_overwritten(bytes: &[u8], offset: usize, text: &[u8]) -> Option<ShortKey>
 /// Writes a text over bytes, from an offset on.
 fn put(bytes: &mut [u8], offset: usize, text: &[u8])
     requires { offset + length text.now ≤ length bytes.old }
-    ensures { bytes.new ≡ take offset bytes.old ++ (text.now ++ drop (offset + length text.now) bytes.old) }
+    ensures { bytes.new ≡
+        take offset bytes.old ++ (text.now ++ drop (offset + length text.now) bytes.old) }
 {
     bytes[offset..offset + text.len()].copy_from_slice(text);
 }

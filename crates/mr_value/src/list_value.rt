@@ -137,7 +137,8 @@ impl ListValue {
 
     /// Takes the item in front.
     pub fn pop_front(&mut self) -> Option<CompactBytes>
-        ensures { MatchOption result ((self.old ≡ []) × (self.new ≡ [])) (λ item. self.old ≡ item ∷ self.new) }
+        ensures { MatchOption result ((self.old ≡ []) × (self.new ≡ [])) (λ item.
+            self.old ≡ item ∷ self.new) }
     {
         let item = self.items.pop_front();
         give_room_back(&mut self.items);
@@ -146,7 +147,8 @@ impl ListValue {
 
     /// Takes the item at the back.
     pub fn pop_back(&mut self) -> Option<CompactBytes>
-        ensures { MatchOption result ((self.old ≡ []) × (self.new ≡ [])) (λ item. self.old ≡ self.new ++ item ∷ []) }
+        ensures { MatchOption result ((self.old ≡ []) × (self.new ≡ [])) (λ item.
+            self.old ≡ self.new ++ item ∷ []) }
     {
         let item = self.items.pop_back();
         give_room_back(&mut self.items);
@@ -193,7 +195,8 @@ impl ListValue {
     /// Moves the item at the back to the front. It takes no memory.
     pub fn rotate_right(&mut self)
         requires { 0 < length self.old }
-        ensures { self.new ≡ drop (length self.old - 1) self.old ++ take (length self.old - 1) self.old }
+        ensures { self.new ≡
+            drop (length self.old - 1) self.old ++ take (length self.old - 1) self.old }
     {
         self.items.rotate_right(1);
     }

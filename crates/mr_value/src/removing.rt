@@ -40,7 +40,9 @@ fn remove_first(items: &mut VecDeque<CompactBytes>, most: usize, item: &[u8]) ->
 /// the others. How many those are, and how many went.
 fn pass_first(items: &mut VecDeque<CompactBytes>, most: usize, item: &[u8]) -> (usize, usize)
     ensures passed { result.0 ≤ deque_len items.new }
-    ensures list { drop (deque_len items.new - result.0) items.new.items ++ take (deque_len items.new - result.0) items.new.items ≡ without_first most item.now items.old.items }
+    ensures list { drop (deque_len items.new - result.0) items.new.items ++
+        take (deque_len items.new - result.0) items.new.items ≡
+        without_first most item.now items.old.items }
     ensures removed { result.1 ≡ min most (count_of item.now items.old.items) }
 {
     let mut passed = 0;
@@ -70,7 +72,8 @@ fn remove_last(items: &mut VecDeque<CompactBytes>, most: usize, item: &[u8]) -> 
 /// the others. How many those are, and how many went.
 fn pass_last(items: &mut VecDeque<CompactBytes>, most: usize, item: &[u8]) -> (usize, usize)
     ensures passed { result.0 ≤ deque_len items.new }
-    ensures list { drop result.0 items.new.items ++ take result.0 items.new.items ≡ without_last most item.now items.old.items }
+    ensures list { drop result.0 items.new.items ++ take result.0 items.new.items ≡
+        without_last most item.now items.old.items }
     ensures removed { result.1 ≡ min most (count_of item.now items.old.items) }
 {
     let mut passed = 0;

@@ -87,7 +87,8 @@ impl MemWire {
 
     /// All bytes that the writes of an open link moved.
     pub fn written(&self, link: LinkId) -> Option<&[u8]>
-        ensures there { IfSome (map.get self.now.links.open_links link) (λ e. IfSome result (λ bytes. bytes.now ≡ e.moved)) }
+        ensures there { IfSome (map.get self.now.links.open_links link) (λ e.
+            IfSome result (λ bytes. bytes.now ≡ e.moved)) }
         ensures absent { IsNone result ↔ (map.get self.now.links.open_links link ≡ None) }
     {
         match self.links.get(link) {
@@ -113,7 +114,9 @@ impl MemWire {
 
     /// Opens a link.
     fn open(&mut self, end: MemLink) -> Result<LinkId, Failed>
-        ensures ok { IfOk result (λ link. Opens (wire_of self.old.links self.old.sent) link end (wire_of self.new.links self.new.sent)) }
+        ensures ok { IfOk result (λ link.
+            Opens (wire_of self.old.links self.old.sent) link end
+            (wire_of self.new.links self.new.sent)) }
         ensures err { OnErr result (self.new.links ≡ self.old.links) }
         ensures sent { self.new.sent ≡ self.old.sent }
         ensures later { self.old.failed.count ≤ self.new.failed.count }
@@ -144,8 +147,10 @@ impl MemWire {
     /// Reads bytes that came on a link into a room. Fails where the link isn't open.
     fn read_link(&mut self, link: LinkId, into: &mut [u8]) -> Moved
         ensures within { count_of result ≤ length into.new }
-        ensures read { ChangesLink (wire_of self.old.links self.old.sent) link (behind_read true result into.new) [] (wire_of self.new.links self.new.sent) }
-        ensures absent { map.get self.old.links.open_links link ≡ None → (result ≡ Moved.Failed) × (self.new.links ≡ self.old.links) }
+        ensures read { ChangesLink (wire_of self.old.links self.old.sent) link
+            (behind_read true result into.new) [] (wire_of self.new.links self.new.sent) }
+        ensures absent { map.get self.old.links.open_links link ≡ None →
+            (result ≡ Moved.Failed) × (self.new.links ≡ self.old.links) }
         ensures sent { self.new.sent ≡ self.old.sent }
         ensures failed { self.new.failed ≡ self.old.failed }
         ensures waited { self.new.waited ≡ self.old.waited }
@@ -159,8 +164,12 @@ impl MemWire {
     /// Writes bytes to a link, or the first of them. Fails where the link isn't open.
     fn write_link(&mut self, link: LinkId, bytes: &[u8]) -> Moved
         ensures within { count_of result ≤ length bytes.now }
-        ensures written { ChangesLink (wire_of self.old.links self.old.sent) link (behind_write true result bytes.now) (sent_by true result bytes.now) (wire_of self.new.links self.new.sent) }
-        ensures absent { map.get self.old.links.open_links link ≡ None → (result ≡ Moved.Failed) × (self.new.links ≡ self.old.links) × (self.new.sent ≡ self.old.sent) }
+        ensures written { ChangesLink (wire_of self.old.links self.old.sent) link
+            (behind_write true result bytes.now) (sent_by true result bytes.now)
+            (wire_of self.new.links self.new.sent) }
+        ensures absent { map.get self.old.links.open_links link ≡ None →
+            (result ≡ Moved.Failed) × (self.new.links ≡ self.old.links) ×
+            (self.new.sent ≡ self.old.sent) }
         ensures failed { self.new.failed ≡ self.old.failed }
         ensures waited { self.new.waited ≡ self.old.waited }
     {
@@ -217,7 +226,8 @@ impl Wire for MemWire {
     fn ready(&mut self) -> Option<LinkId>
         ensures next { result ≡ first_from self.old.unnamed self.old.links }
         ensures there { IfSome result (λ link. IsSome (map.get self.new.links.open_links link)) }
-        ensures same { wire_of self.new.links self.new.sent ≡ wire_of self.old.links self.old.sent }
+        ensures same { wire_of self.new.links self.new.sent ≡
+            wire_of self.old.links self.old.sent }
         ensures failures { self.new.failed.count ≡ self.old.failed.count }
         ensures waited { self.new.waited ≡ self.old.waited }
     {

@@ -63,7 +63,8 @@ impl SentLog {
 
     /// Takes back what was noted last: these bytes on this link.
     pub(crate) fn forget(&mut self, link: LinkId, bytes: &[u8])
-        ensures { (before : List SentState) → self.old ≡ sent_on link bytes.now before → self.new ≡ before }
+        ensures { (before : List SentState) → self.old ≡ sent_on link bytes.now before →
+            self.new ≡ before }
     {
         if !bytes.is_empty() {
             let _ = self.items.pop_front();

@@ -125,8 +125,10 @@ impl SocketWire {
 
     /// Opens a link over a socket, or drops the socket.
     fn open(&mut self, connection: Connection) -> Result<LinkId, Failed>
-        ensures ok { IfOk result (λ link. Opens (wire_of self.old.links []) link connection (wire_of self.new.links [])) }
-        ensures err { OnErr result (AcceptsNone (wire_of self.old.links []) (wire_of self.new.links [])) }
+        ensures ok { IfOk result (λ link.
+            Opens (wire_of self.old.links []) link connection (wire_of self.new.links [])) }
+        ensures err { OnErr result
+            (AcceptsNone (wire_of self.old.links []) (wire_of self.new.links [])) }
         ensures later { self.old.failed.count ≤ self.new.failed.count }
         ensures cause { OnErr result (Rose self.old.failed.count self.new.failed.count) }
     {
@@ -169,8 +171,10 @@ impl SocketWire {
     /// Reads bytes that came on a link into a room. Fails where the link isn't open.
     fn read_link(&mut self, link: LinkId, into: &mut [u8]) -> Moved
         ensures within { count_of result ≤ length into.new }
-        ensures read { ChangesLink (wire_of self.old.links []) link (behind_read false result into.new) [] (wire_of self.new.links []) }
-        ensures absent { map.get self.old.links.open_links link ≡ None → (result ≡ Moved.Failed) × (self.new.links ≡ self.old.links) }
+        ensures read { ChangesLink (wire_of self.old.links []) link
+            (behind_read false result into.new) [] (wire_of self.new.links []) }
+        ensures absent { map.get self.old.links.open_links link ≡ None →
+            (result ≡ Moved.Failed) × (self.new.links ≡ self.old.links) }
         ensures failed { self.new.failed ≡ self.old.failed }
     {
         match self.links.get_mut(link) {
@@ -182,8 +186,10 @@ impl SocketWire {
     /// Writes bytes to a link, or the first of them. Fails where the link isn't open.
     fn write_link(&mut self, link: LinkId, bytes: &[u8]) -> Moved
         ensures within { count_of result ≤ length bytes.now }
-        ensures written { ChangesLink (wire_of self.old.links []) link (behind_write false result bytes.now) [] (wire_of self.new.links []) }
-        ensures absent { map.get self.old.links.open_links link ≡ None → (result ≡ Moved.Failed) × (self.new.links ≡ self.old.links) }
+        ensures written { ChangesLink (wire_of self.old.links []) link
+            (behind_write false result bytes.now) [] (wire_of self.new.links []) }
+        ensures absent { map.get self.old.links.open_links link ≡ None →
+            (result ≡ Moved.Failed) × (self.new.links ≡ self.old.links) }
         ensures failed { self.new.failed ≡ self.old.failed }
     {
         match self.links.get_mut(link) {

@@ -48,7 +48,8 @@ pub trait Wire {
 
     /// The next link that a peer opened, if there is one.
     fn accept(&mut self) -> Result<Option<LinkId>, Failed>
-        ensures some { IfOk result (λ next. IfSome next (λ link. Accepts (links self.old) link (links self.new))) }
+        ensures some { IfOk result (λ next.
+            IfSome next (λ link. Accepts (links self.old) link (links self.new))) }
         ensures none { IfOk result (λ next. IfNone next (links self.new ≡ links self.old)) }
         ensures err { OnErr result (AcceptsNone (links self.old) (links self.new)) }
         ensures waited { waited self.new ≡ waited self.old }
@@ -59,7 +60,8 @@ pub trait Wire {
     /// call doesn't wait: until the peer has answered, nothing can be moved on the link. Where it refuses, the next read or write
     /// fails, or finds the end.
     fn connect(&mut self, host: &[u8], port: u16) -> Result<LinkId, Failed>
-        ensures ok { IfOk result (λ link. Connects (links self.old) host.now port link (links self.new)) }
+        ensures ok { IfOk result (λ link.
+            Connects (links self.old) host.now port link (links self.new)) }
         ensures err { OnErr result (AcceptsNone (links self.old) (links self.new)) }
         ensures waited { waited self.new ≡ waited self.old }
         ensures later { failures self.old ≤ failures self.new }
@@ -78,8 +80,10 @@ pub trait Wire {
     /// Reads the next bytes of a link into the front of a buffer.
     fn read(&mut self, link: LinkId, into: &mut [u8]) -> Moved
         ensures within { count_of result ≤ length into.new }
-        ensures read { ChangesLink (links self.old) link (behind_read tells result into.new) [] (links self.new) }
-        ensures absent { map.get (links self.old).open_links link ≡ None → (result ≡ Moved.Failed) × (links self.new ≡ links self.old) }
+        ensures read { ChangesLink (links self.old) link (behind_read tells result into.new) []
+            (links self.new) }
+        ensures absent { map.get (links self.old).open_links link ≡ None →
+            (result ≡ Moved.Failed) × (links self.new ≡ links self.old) }
         ensures waited { waited self.new ≡ waited self.old }
         ensures later { failures self.old ≤ failures self.new }
         ensures cause { result ≡ Moved.Failed → Rose (failures self.old) (failures self.new) };
@@ -87,15 +91,18 @@ pub trait Wire {
     /// Writes a beginning of the bytes on a link.
     fn write(&mut self, link: LinkId, bytes: &[u8]) -> Moved
         ensures within { count_of result ≤ length bytes.now }
-        ensures written { ChangesLink (links self.old) link (behind_write tells result bytes.now) (sent_by tells result bytes.now) (links self.new) }
-        ensures absent { map.get (links self.old).open_links link ≡ None → (result ≡ Moved.Failed) × (links self.new ≡ links self.old) }
+        ensures written { ChangesLink (links self.old) link (behind_write tells result bytes.now)
+            (sent_by tells result bytes.now) (links self.new) }
+        ensures absent { map.get (links self.old).open_links link ≡ None →
+            (result ≡ Moved.Failed) × (links self.new ≡ links self.old) }
         ensures waited { waited self.new ≡ waited self.old }
         ensures later { failures self.old ≤ failures self.new }
         ensures cause { result ≡ Moved.Failed → Rose (failures self.old) (failures self.new) };
 
     /// Closes a link. Where it isn't there nothing changes.
     fn close(&mut self, link: LinkId)
-        ensures closed { (links self.new).open_links ≡ map.remove (links self.old).open_links link }
+        ensures closed { (links self.new).open_links ≡
+            map.remove (links self.old).open_links link }
         ensures opened { (links self.new).opened ≡ (links self.old).opened }
         ensures sent { (links self.new).sent ≡ (links self.old).sent }
         ensures waited { waited self.new ≡ waited self.old }

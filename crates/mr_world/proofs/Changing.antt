@@ -2,15 +2,15 @@
 use Rattle.std.proofs.Common.{◌≡◌, ◌≢◌, ◌⊎◌, inl, inr, ℕ, List, [], ◌∷◌, ◌++◌, true, Option, Some, refl, sym, ap, subst, ◌∙◌}
 use Rattle.std.specs.Prelude.{slice_get, slice_set}
 use Rattle.mr_links.specs.declared.link_id.LinkId.{LinkId}
-use Rattle.mr_follow.specs.State.{FollowState, Agrees}
-use Rattle.mr_ends.specs.State.{Transaction}
-use Rattle.mr_rows.specs.State.{NodeState, end_of}
-use Rattle.mr_rows.specs.Sound.{IsSound}
-use Rattle.mr_seen.specs.Way.{IsWay, unread}
-use Rattle.mr_seen.specs.State.{a_node, BookEntry, Link, Slot, WorldState}
-use Rattle.mr_seen.specs.Worlds.{IsWorld, HasServer, HasMaster, end_for}
-use Rattle.mr_seen.proofs.Places.{set_here, set_there, set_cases, push_cases, push_old, some_is}
-use Rattle.mr_seen.proofs.Reading.{number_or}
+use Rattle.mr_follower.specs.State.{FollowState, Agrees}
+use Rattle.mr_node_links.specs.State.{Transaction}
+use Rattle.mr_node_spec.specs.State.{NodeState, end_of}
+use Rattle.mr_node_spec.specs.Sound.{IsSound}
+use Rattle.law_refinement.specs.Way.{IsWay, unread}
+use Rattle.law_refinement.specs.State.{a_node, BookEntry, Link, Slot, WorldState}
+use Rattle.law_refinement.specs.Worlds.{IsUntouched, IsWorld, HasServer, HasMaster, end_for}
+use Rattle.law_refinement.proofs.Places.{set_here, set_there, set_cases, push_cases, push_old, some_is}
+use Rattle.law_refinement.proofs.Reading.{number_or}
 
 -- the node's end of a link is open and agrees with it, in a transaction or in none
 abbrev pub HasEnd : NodeState → Link → Type 0
@@ -33,6 +33,7 @@ pub record Changed (w : WorldState) (n : ℕ) (t : Slot) (links : List Link) : T
   pub origin : (j : ℕ) (y : Link) → slice_get links j ≡ Some y → Was w j y
   pub asks : (j : ℕ) (y : Link) → slice_get links j ≡ Some y → IsWay y.ask
   pub tells : (j : ℕ) (y : Link) → slice_get links j ≡ Some y → IsWay y.tell
+  pub untouched : (j : ℕ) (y : Link) → slice_get links j ≡ Some y → y.waits ≡ true → IsUntouched y
   pub here : (j : ℕ) (y : Link) → slice_get links j ≡ Some y → y.to ≡ n → t.node.core.up ≡ true → y.serving ≡ true → HasEnd t.node y
   pub there : (j : ℕ) (x y : Link) → slice_get w.links j ≡ Some x → slice_get links j ≡ Some y → y.to ≢ n → y.serving ≡ true → SameEnds x y
   pub sound : t.node.core.up ≡ true → IsSound t.node
@@ -69,6 +70,7 @@ module _ (w : WorldState) (n : ℕ) (s t : Slot) (links : List Link) (is : IsWor
     asks = c.asks;
     tells = c.tells;
     servers = server;
+    untouched = c.untouched;
     names = λ i j y z e f p q d a. let x = c.origin i y e in let v = c.origin j z f in
         is.names i j x.link v.link x.found v.found (x.serving p) (v.serving q) (sym x.to ∙ (d ∙ v.to)) (sym x.name ∙ (a ∙ v.name));
     nodes = λ m u e up. node_of m u (set_cases w.slots n m t u e) up;
@@ -86,6 +88,7 @@ node_world w n s t is at c = changed_world w n s t w.links is at (record {
   origin = λ j y e. record { link = y; found = e; to = refl; name = refl; serving = λ q. q };
   asks = is.asks;
   tells = is.tells;
+  untouched = is.untouched;
   here = c.here;
   there = λ j x y d e apart q held. let one : x ≡ y = some_is x y (sym d ∙ e) in ap (λ (z : Link). end_for z.streams held (unread z.ask)) one;
   sound = c.sound;
@@ -100,6 +103,7 @@ pub record LinkChanges (w : WorldState) (n : ℕ) (t : Slot) (l : ℕ) (k m : Li
   pub serving : m.serving ≡ true → k.serving ≡ true
   pub ask : IsWay m.ask
   pub tell : IsWay m.tell
+  pub untouched : m.waits ≡ true → IsUntouched m
   pub here : m.to ≡ n → t.node.core.up ≡ true → m.serving ≡ true → HasEnd t.node m
   pub others : (j : ℕ) (y : Link) → j ≢ l → slice_get w.links j ≡ Some y → y.to ≡ n → t.node.core.up ≡ true → y.serving ≡ true → HasEnd t.node y
   pub there : m.to ≢ n → m.serving ≡ true → SameEnds k m
@@ -127,6 +131,7 @@ link_world w n s t l k m is at found c = changed_world w n s t (slice_set w.link
   ];
   asks = λ j y e. elim (set_cases w.links l j m y e) [ inl p ↦ subst (λ (z : Link). IsWay z.ask) (sym p.1) c.ask | inr p ↦ is.asks j y p.1 ];
   tells = λ j y e. elim (set_cases w.links l j m y e) [ inl p ↦ subst (λ (z : Link). IsWay z.tell) (sym p.1) c.tell | inr p ↦ is.tells j y p.1 ];
+  untouched = λ j y e. elim (set_cases w.links l j m y e) [ inl p ↦ subst (λ (z : Link). z.waits ≡ true → IsUntouched z) (sym p.1) c.untouched | inr p ↦ is.untouched j y p.1 ];
   here = λ j y e. elim (set_cases w.links l j m y e) [
     | inl p ↦ subst (λ (z : Link). z.to ≡ n → t.node.core.up ≡ true → z.serving ≡ true → HasEnd t.node z) (sym p.1) c.here
     | inr p ↦ c.others j y p.0 p.1
@@ -144,12 +149,13 @@ link_world w n s t l k m is at found c = changed_world w n s t (slice_set w.link
 })
 
 -- ---- one comes
-pub link_comes : (w : WorldState) (k : Link) → IsWorld w → IsWay k.ask → IsWay k.tell → HasServer w.slots k
+pub link_comes : (w : WorldState) (k : Link) → IsWorld w → IsWay k.ask → IsWay k.tell → HasServer w.slots k → (k.waits ≡ true → IsUntouched k)
     → ((j : ℕ) (y : Link) → slice_get w.links j ≡ Some y → y.serving ≡ true → y.to ≡ k.to → y.name ≡ k.name → ⊥) → IsWorld (record w { links = w.links ++ k ∷ [] })
-link_comes w k is ask tell served new = record {
+link_comes w k is ask tell served untouched new = record {
   asks = λ j y e. elim (push_cases w.links k j y e) [ inl p ↦ subst (λ (z : Link). IsWay z.ask) (sym p.1) ask | inr p ↦ is.asks j y p ];
   tells = λ j y e. elim (push_cases w.links k j y e) [ inl p ↦ subst (λ (z : Link). IsWay z.tell) (sym p.1) tell | inr p ↦ is.tells j y p ];
   servers = λ j y e. elim (push_cases w.links k j y e) [ inl p ↦ subst (λ (z : Link). HasServer w.slots z) (sym p.1) served | inr p ↦ is.servers j y p ];
+  untouched = λ j y e. elim (push_cases w.links k j y e) [ inl p ↦ subst (λ (z : Link). z.waits ≡ true → IsUntouched z) (sym p.1) untouched | inr p ↦ is.untouched j y p ];
   names = λ i j y z e f p q d a. elim (push_cases w.links k i y e) [
     | inl x ↦ elim (push_cases w.links k j z f) [
       | inl v ↦ x.0 ∙ sym v.0
@@ -169,6 +175,7 @@ node_comes w t book is sound nobody = record {
   asks = is.asks;
   tells = is.tells;
   servers = λ j y e. let h = is.servers j y e in record { slot = h.slot; found = push_old w.slots t y.to h.slot h.found; agrees = h.agrees };
+  untouched = is.untouched;
   names = is.names;
   nodes = λ m u e up. elim (push_cases w.slots t m u e) [ inl p ↦ subst (λ (z : Slot). IsSound z.node) (sym p.1) sound | inr p ↦ is.nodes m u p up ];
   followers = λ m u name f e up q. elim (push_cases w.slots t m u e) [ inl p ↦ absurd (nobody name f (ap (λ (z : Slot). z.node.follow) (sym p.1) ∙ q)) | inr p ↦ is.followers m u name f p up q ];

@@ -1,20 +1,20 @@
 -- A node that dials another is an event of histories.
 use Rattle.std.proofs.Common.{◌≡◌, ℕ, Bool, false, true, refl, sym, ap, subst, ◌∙◌}
 use Rattle.std.specs.Option.{option_map}
-use Rattle.mr_history.specs.History.{Book}
-use Rattle.mr_history.specs.Event as events
-use Rattle.mr_history.specs.Changing.{Stops}
-use Rattle.mr_history.specs.Changing.Unless.{acts, stopped}
-use Rattle.mr_history.specs.Rows as rows
-use Rattle.mr_language.specs.Minired.{minired}
-use Rattle.mr_rows.specs.State.{stopped_as}
-use Rattle.mr_seen.specs.State.{Slot, WorldState}
-use Rattle.mr_seen.specs.Seeing.{seen, seen_follow, seen_node}
-use Rattle.mr_seen.specs.Carrying.{put_node}
-use Rattle.mr_seen.specs.Events.{Holds, IsEvent}
-use Rattle.mr_seen.proofs.Linking.{dials}
-use Rattle.mr_seen.proofs.Places.{some_is}
-use Rattle.mr_seen.proofs.Stopping.{node_stops}
+use Rattle.law_protocol.specs.History.{Book}
+use Rattle.law_protocol.specs.Event as events
+use Rattle.law_protocol.specs.Changing.{Stops}
+use Rattle.law_protocol.specs.Changing.Unless.{acts, stopped}
+use Rattle.law_protocol.specs.Rows as rows
+use Rattle.law_minired.specs.Minired.{minired}
+use Rattle.mr_node_spec.specs.State.{stopped_as}
+use Rattle.law_refinement.specs.State.{Slot, WorldState}
+use Rattle.law_refinement.specs.Seeing.{seen, seen_follow, seen_node}
+use Rattle.law_refinement.specs.Carrying.{put_node}
+use Rattle.law_refinement.specs.Events.{Holds, IsEvent}
+use Rattle.law_refinement.proofs.Linking.{dials}
+use Rattle.law_refinement.proofs.Places.{some_is}
+use Rattle.law_refinement.proofs.Stopping.{node_stops}
 use Rattle.mr_world.specs.Calls.{IsDown}
 use Rattle.mr_world.specs.Connecting.{BothRun, CanDial, Dialled, DiallerStops, ServerStops}
 
@@ -34,7 +34,7 @@ module _ (w : WorldState) (book : Book minired) (n m : ℕ) (holds : Holds w boo
       waiting = ap (seen_follow b.can.dialler.dialled) b.can.alone;
       server = seen_node d.server;
       server_found = ap (option_map seen_node) d.running.at;
-      does = acts b.dialler_up (acts d.running.up (rows.Dials.server_stops (node_stops w book m d.server (stopped_as d.server.node) d.running.at refl)));
+      does = acts b.dialler_up (acts d.running.up (rows.Dials.server_stops (node_stops w holds.world book m d.server (stopped_as d.server.node) d.running.at refl)));
     };
   })
 
@@ -52,7 +52,7 @@ module _ (w : WorldState) (book : Book minired) (n m : ℕ) (holds : Holds w boo
           server = seen_node b.can.server;
           server_found = ap (option_map seen_node) b.can.found;
           does = acts b.dialler_up (acts b.server_up (rows.Dials.stops (subst (λ (z : Slot). Stops (seen w book) (seen (put_node w n d.dialler (stopped_as d.dialler.node)) book) n (seen_node z)) same
-              (node_stops w book n d.dialler (stopped_as d.dialler.node) d.dialling.at refl))));
+              (node_stops w holds.world book n d.dialler (stopped_as d.dialler.node) d.dialling.at refl))));
         };
       })
 

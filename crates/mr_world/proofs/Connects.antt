@@ -1,23 +1,23 @@
 -- A node that dials another, or itself: that what is true of each World stays.
-use Rattle.std.proofs.Common.{◌≡◌, ◌≢◌, ◌++◌, ◌∷◌, [], ℕ, cond, Option, None, Some, Result, Ok, Err, length, refl, sym, ap, subst, ◌∙◌, arith}
+use Rattle.std.proofs.Common.{◌≡◌, ◌≢◌, ◌++◌, ◌∷◌, [], ℕ, cond, false, true, Option, None, Some, Result, Ok, Err, length, refl, sym, ap, subst, ◌∙◌, arith}
 use Rattle.std.specs.Prelude.{slice_set}
 use Rattle.std.specs.FinMap.{get, get-insert}
 use Rattle.mr_links.specs.Links.{Links}
 use Rattle.mr_links.specs.declared.link_id.LinkId.{LinkId}
 use Rattle.mr_links.proofs.LinkRows.{ids_total}
 use Rattle.mr_links.proofs.Generations.{inserted_once}
-use Rattle.mr_follow.specs.State.{FollowState}
-use Rattle.mr_ends.specs.State.{EndState, end_at, opened_as}
-use Rattle.mr_ends.specs.State.EndState.{client, upstream}
-use Rattle.mr_ends.proofs.Naming.{at_or_other}
-use Rattle.mr_rows.specs.State.{NodeState, end_of, stopped_as}
-use Rattle.mr_rows.specs.LinkRows.{Opens}
-use Rattle.mr_seen.specs.Way.{IsWay, no_way, unread}
-use Rattle.mr_seen.specs.State.{Link, Slot, WorldState}
-use Rattle.mr_seen.specs.Worlds.{IsWorld, HasMaster, end_for}
-use Rattle.mr_seen.specs.Carrying.{connected, dialled_link, put_node}
-use Rattle.mr_seen.proofs.Places.{push_here, set_here, some_is}
-use Rattle.mr_seen.proofs.Others.{served_end}
+use Rattle.mr_follower.specs.State.{FollowState}
+use Rattle.mr_node_links.specs.State.{EndState, end_at, opened_as}
+use Rattle.mr_node_links.specs.State.EndState.{client, upstream}
+use Rattle.mr_node_links.proofs.Naming.{at_or_other}
+use Rattle.mr_node_spec.specs.State.{NodeState, end_of, stopped_as}
+use Rattle.mr_node_spec.specs.LinkRows.{Opens}
+use Rattle.law_refinement.specs.Way.{IsWay, no_way, unread}
+use Rattle.law_refinement.specs.State.{Link, Slot, WorldState}
+use Rattle.law_refinement.specs.Worlds.{IsWorld, HasMaster, end_for}
+use Rattle.law_refinement.specs.Carrying.{connected, dialled_link, put_node}
+use Rattle.law_refinement.proofs.Places.{push_here, set_here, some_is}
+use Rattle.law_refinement.proofs.Others.{served_end}
 use Rattle.mr_world.specs.declared.refusal.Refusal.{Refusal}
 use Rattle.mr_world.specs.declared.refusal.Refusal.TheVariants as refusal
 use Rattle.mr_world.specs.Connecting.{Connects, DialCall, Dialled}
@@ -26,6 +26,9 @@ use Rattle.mr_world.proofs.Kept.{apart, between, stops_world}
 
 no_some : {A : Type 0} (x : A) → ◌≡◌ {A = Option A} None (Some x) → ⊥
 no_some x e = cc
+
+served : false ≡ true → ⊥
+served e = cc
 
 -- ---- an end that was opened and taken back
 -- the node at which an end was opened is told by what it is behind that
@@ -59,7 +62,7 @@ module _ (w : WorldState) (n m : ℕ) (v : WorldState) (is : IsWorld w) (d : Con
 
   linked_world : IsWorld (record w { slots = slice_set w.slots m (record d.server { node = d.served }); links = w.links ++ link ∷ [] })
   linked_world = link_comes (put_node w m d.server d.served) link opened_world (record { used_within = omega arith; taken_within = omega arith }) no_ways
-      (record { slot = record d.server { node = d.served }; found = set_here w.slots m (record d.server { node = d.served }) d.server d.running.at; agrees = λ u q. (None, d.opens.agrees.is) })
+      (record { slot = record d.server { node = d.served }; found = set_here w.slots m (record d.server { node = d.served }) d.server d.running.at; agrees = λ u q. (None, d.opens.agrees.is) }) (λ u. absurd (served u))
       (apart w m d.server d.at d.served is d.running.at d.running.up d.opens)
 
   own_link : (name : LinkId) (f : FollowState) → d.node.follow ≡ Some (name, f) → HasMaster (w.links ++ link ∷ []) n anew name f

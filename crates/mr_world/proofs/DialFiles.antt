@@ -1,9 +1,9 @@
 -- What a dial does to the files of nodes: nothing.
 use Rattle.std.proofs.Common.{ℕ, Ok, refl}
-use Rattle.mr_rows.specs.State.{stopped_as}
-use Rattle.mr_seen.specs.State.{WorldState}
-use Rattle.mr_filing.specs.Worlds.{FilesGoOn}
-use Rattle.mr_filing.proofs.Worlds as files
+use Rattle.mr_node_spec.specs.State.{stopped_as}
+use Rattle.law_refinement.specs.State.{WorldState}
+use Rattle.law_files.specs.Worlds.{FilesGoOn}
+use Rattle.law_files.proofs.Worlds as files
 use Rattle.mr_world.specs.Connecting.{DialCall, Dialled}
 use Rattle.mr_world.proofs.Filed.{is_as, no_file}
 

@@ -2,19 +2,19 @@
 use Rattle.std.proofs.Common.{◌≡◌, ◌≢◌, ◌<◌, ◌≤◌, ℕ, true, false, Option, None, Some, Result, Ok, Err, length, get_or, refl, sym, ap, subst, ◌∙◌, arith}
 use Rattle.std.specs.Prelude.{slice_get, slice_set}
 use Rattle.mr_links.specs.declared.link_id.LinkId.{LinkId}
-use Rattle.mr_follow.specs.State.{FollowState}
-use Rattle.mr_ends.specs.State.EndState.{upstream}
-use Rattle.mr_rows.specs.State.{FollowedAt, end_of}
-use Rattle.mr_rows.specs.LinkRows.{closed_at}
-use Rattle.mr_state.proofs.Nodes.{closed_node}
-use Rattle.mr_seen.specs.Way.{unread}
-use Rattle.mr_seen.specs.State.{Caller, a_client, a_node, Link, Slot, WorldState}
-use Rattle.mr_seen.specs.Worlds.{IsWorld}
-use Rattle.mr_seen.specs.Carrying.{put_node}
-use Rattle.mr_seen.proofs.Places.{is_within, some_is}
-use Rattle.mr_seen.proofs.Others.{served_end}
-use Rattle.mr_carrying.specs.AtNode.{IsFollowing}
-use Rattle.mr_carrying.proofs.Places.{stands}
+use Rattle.mr_follower.specs.State.{FollowState}
+use Rattle.mr_node_links.specs.State.EndState.{upstream}
+use Rattle.mr_node_spec.specs.State.{FollowedAt, end_of}
+use Rattle.mr_node_spec.specs.LinkRows.{closed_at}
+use Rattle.mr_node_state.proofs.Nodes.{closed_node}
+use Rattle.law_refinement.specs.Way.{unread}
+use Rattle.law_refinement.specs.State.{Caller, a_client, a_node, Link, Slot, WorldState}
+use Rattle.law_refinement.specs.Worlds.{IsWorld}
+use Rattle.law_refinement.specs.Carrying.{put_node}
+use Rattle.law_refinement.proofs.Places.{is_within, some_is}
+use Rattle.law_refinement.proofs.Others.{served_end}
+use Rattle.mr_world_parts.specs.AtNode.{IsFollowing}
+use Rattle.mr_world_parts.proofs.Places.{stands}
 use Rattle.mr_world.specs.declared.refusal.Refusal.{Refusal}
 use Rattle.mr_world.specs.declared.refusal.Refusal.TheVariants as refusal
 use Rattle.mr_world.specs.Linking.{BreaksOff, DropCall, Drops, FollowerRests, FollowsAt, FollowsBy, IsDialler, NoneFollows}

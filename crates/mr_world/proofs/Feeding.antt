@@ -4,24 +4,25 @@ use Rattle.std.specs.Prelude.{slice_get, slice_set}
 use Rattle.std.proofs.lemmas.List.{length-drop, length-take}
 use Rattle.mr_links.specs.Links.{Links}
 use Rattle.mr_links.specs.declared.link_id.LinkId.{LinkId}
-use Rattle.mr_follow.specs.State.{FollowState}
-use Rattle.mr_course.specs.State.{name_of}
-use Rattle.mr_ends.specs.State.{EndState, Transaction, end_at}
-use Rattle.mr_ends.specs.State.EndState.{upstream}
-use Rattle.mr_rows.specs.State.{NodeState, FollowedAt, IsTooMuch, end_of}
-use Rattle.mr_rows.specs.Sound.{IsSound}
-use Rattle.mr_rows.specs.LinkRows.{Feeds}
+use Rattle.mr_follower.specs.State.{FollowState}
+use Rattle.mr_replication.specs.State.{name_of}
+use Rattle.mr_node_links.specs.State.{EndState, Transaction, end_at}
+use Rattle.mr_node_links.specs.State.EndState.{upstream}
+use Rattle.mr_node_spec.specs.State.{NodeState, FollowedAt, IsTooMuch, end_of}
+use Rattle.mr_node_spec.specs.Sound.{IsSound}
+use Rattle.mr_node_spec.specs.LinkRows.{Feeds}
 use Rattle.mr_node.specs.Calls.{FitsMore}
-use Rattle.mr_seen.specs.Way.{taken_on, unread}
-use Rattle.mr_seen.specs.State.{Link, Slot, WorldState}
-use Rattle.mr_seen.specs.Worlds.{IsWorld, end_for}
-use Rattle.mr_seen.specs.Events.{IsServed}
-use Rattle.mr_seen.specs.Carrying.{fed_server}
-use Rattle.mr_seen.proofs.Places.{some_is}
-use Rattle.mr_seen.proofs.Unread.{taken_way, unread_taken}
-use Rattle.mr_seen.proofs.Others.{served_end}
-use Rattle.mr_carrying.proofs.Room.{no_some}
-use Rattle.mr_carrying.proofs.Places.{stands}
+use Rattle.law_refinement.specs.Way.{taken_on, unread}
+use Rattle.law_refinement.specs.State.{Link, Slot, WorldState}
+use Rattle.law_refinement.specs.Worlds.{IsWorld, end_for}
+use Rattle.law_refinement.specs.Events.{IsServed}
+use Rattle.law_refinement.specs.Carrying.{fed_server}
+use Rattle.law_refinement.proofs.Places.{some_is}
+use Rattle.law_refinement.proofs.Unread.{taken_way, unread_taken}
+use Rattle.law_refinement.proofs.Unaccepted.{served_not_waiting}
+use Rattle.law_refinement.proofs.Others.{served_end}
+use Rattle.mr_world_parts.proofs.Room.{no_some}
+use Rattle.mr_world_parts.proofs.Places.{stands}
 use Rattle.mr_world.specs.declared.refusal.Refusal.{Refusal}
 use Rattle.mr_world.specs.declared.refusal.Refusal.TheVariants as refusal
 use Rattle.mr_world.specs.Linking.{CanHear, DeliverCall, Delivers, IsOverfull, NeedsRoom}
@@ -59,6 +60,7 @@ hears_world w l count k s b is can f sound = link_world w k.to s (record s { nod
   serving = λ q. q;
   ask = taken_way k.ask count (is.asks l k can.served.found) can.sent;
   tell = is.tells l k can.served.found;
+  untouched = λ u. absurd (served_not_waiting w is l k can.served.found can.served.serving u);
   here = λ to up q.
       let at = its_end w l k s is can.served in
       (at.0, fed_end s.node b k.name k.streams at.0 (unread k.ask) (take count (drop k.ask.taken k.ask.sent)) f at.1 ∙ ap (λ z. Some (end_for k.streams at.0 z)) (sym (unread_taken k.ask count (is.asks l k can.served.found))));

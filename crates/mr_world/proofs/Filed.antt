@@ -1,10 +1,10 @@
 -- What each event of a World that was taken does to the files of its nodes.
 use Rattle.std.proofs.Common.{◌≡◌, ℕ, ℤ, List, [], Bool, Ok, refl, sym, subst}
 use Rattle.std.specs.FinMap.{empty}
-use Rattle.mr_rows.specs.State.{stopped_as}
-use Rattle.mr_seen.specs.State.{WorldState}
-use Rattle.mr_filing.specs.Worlds.{FilesGoOn}
-use Rattle.mr_filing.proofs.Worlds as files
+use Rattle.mr_node_spec.specs.State.{stopped_as}
+use Rattle.law_refinement.specs.State.{WorldState}
+use Rattle.law_files.specs.Worlds.{FilesGoOn}
+use Rattle.law_files.proofs.Worlds as files
 use Rattle.mr_world.specs.Calls.{StartCall, ClientCall, Clients, CommandCall, TakeCall, LeaveCall, BreakCall, Breaks}
 use Rattle.mr_world.specs.Linking.{BreaksOff, DeliverCall, Delivers, DropCall}
 use Rattle.mr_world.specs.Hearing.{ListenCall, Tells}

@@ -2,15 +2,15 @@
 use Rattle.std.proofs.Common.{◌≡◌, ℕ, List, Ok, refl, sym, ap, subst, ◌∙◌}
 use Rattle.std.specs.Prelude.{not, take}
 use Rattle.mr_data.specs.declared.given.Given.{Given}
-use Rattle.mr_rows.specs.State.{NodeState, stopped_as}
-use Rattle.mr_seen.specs.Way.{unread}
-use Rattle.mr_outs.specs.Outs.{OutsState}
-use Rattle.mr_seen.specs.State.{Link, Slot, WorldState}
-use Rattle.mr_seen.specs.Events.{IsServed}
-use Rattle.mr_seen.specs.Worlds.{IsWorld}
-use Rattle.mr_seen.specs.Carrying.{stepped, begun_slot, restarted_with}
-use Rattle.mr_filing.specs.Worlds.{FilesGoOn}
-use Rattle.mr_filing.proofs.Worlds as files
+use Rattle.mr_node_spec.specs.State.{NodeState, stopped_as}
+use Rattle.law_refinement.specs.Way.{unread}
+use Rattle.mr_node_output.specs.Outs.{OutsState}
+use Rattle.law_refinement.specs.State.{Link, Slot, WorldState}
+use Rattle.law_refinement.specs.Events.{IsServed}
+use Rattle.law_refinement.specs.Worlds.{IsWorld}
+use Rattle.law_refinement.specs.Carrying.{stepped, begun_slot, restarted_with}
+use Rattle.law_files.specs.Worlds.{FilesGoOn}
+use Rattle.law_files.proofs.Worlds as files
 use Rattle.mr_world.specs.Serving.{StepCall, Serves, ServedRow}
 use Rattle.mr_world.specs.Following.{FollowCall, Follows, HasLacked}
 use Rattle.mr_world.specs.Restarting.{RestartCall}

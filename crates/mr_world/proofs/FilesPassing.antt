@@ -1,15 +1,15 @@
 -- What runs lead through has files that go on.
 use Rattle.std.proofs.Common.{zero, suc, ◌≡◌, ◌⊎◌, inl, inr, ℕ, List, [], ◌∷◌, ◌++◌, Bool, true, false, Some, Result, Ok, Err, length, take, drop, refl, sym, ap, subst, ◌∙◌, append-nil, append_assoc, arith}
 use Rattle.std.specs.Prelude.{slice_get}
-use Rattle.mr_seen.specs.State.{Slot, WorldState}
-use Rattle.mr_seen.specs.Worlds.{IsWorld, no_world}
+use Rattle.law_refinement.specs.State.{Slot, WorldState}
+use Rattle.law_refinement.specs.Worlds.{IsWorld, no_world}
 use Rattle.mr_headline.specs.Runs.{last_of}
-use Rattle.mr_seen.proofs.Beginning.{worlds_begin}
-use Rattle.mr_seen.proofs.Places.{is_within}
-use Rattle.mr_filing.specs.Worlds.{FileBegins, FileGoesOn, FilesGoOn, GoOn, HasGrown}
-use Rattle.mr_filing.proofs.Filing.{grow_on, kept_grows}
-use Rattle.mr_filing.proofs.Worlds.{files_are_true}
-use Rattle.mr_carrying.specs.declared.side.Side.TheVariants as side
+use Rattle.law_refinement.proofs.Beginning.{worlds_begin}
+use Rattle.law_refinement.proofs.Places.{is_within}
+use Rattle.law_files.specs.Worlds.{FileBegins, FileGoesOn, FilesGoOn, GoOn, HasGrown}
+use Rattle.law_files.proofs.Filing.{grow_on, kept_grows}
+use Rattle.law_files.proofs.Worlds.{files_are_true}
+use Rattle.mr_world_parts.specs.declared.side.Side.TheVariants as side
 use Rattle.mr_world.specs.declared.event.Event.{Event}
 use Rattle.mr_world.specs.declared.event.Event.TheVariants as event
 use Rattle.mr_world.specs.declared.refusal.Refusal.{Refusal}

@@ -3,25 +3,25 @@ use Rattle.std.proofs.Common.{◌≡◌, take, ◌∙◌, ◌||◌, ℕ, List, [
 use Rattle.std.specs.Prelude.{bytes_eq, slice_get}
 use Rattle.mr_data.specs.declared.given.Given.{Given}
 use Rattle.mr_repl.specs.ReplId.{zero_id}
-use Rattle.mr_history.specs.History.{Book}
-use Rattle.mr_history.specs.Event as events
-use Rattle.mr_history.specs.Event.Side.{Server, Dialler}
-use Rattle.mr_history.specs.Changing.{Still}
-use Rattle.mr_language.specs.Minired.{minired}
-use Rattle.mr_rows.specs.State.{stopped_as}
-use Rattle.mr_seen.specs.State.{BookEntry, Link, Slot, WorldState}
-use Rattle.mr_seen.specs.Seeing.{seen}
-use Rattle.mr_seen.specs.Books.{entry_of, IsBook}
-use Rattle.mr_seen.specs.Carrying.{fed_caller, restarted_with}
-use Rattle.mr_seen.specs.Events.{IsEvent, Holds}
-use Rattle.mr_seen.specs.OwnEnds.{IsAClients}
-use Rattle.mr_seen.proofs.Beginning.{starts, restarts}
-use Rattle.mr_seen.proofs.Linking.{opens, open_stops, server_feeds, master_feeds, server_breaks, master_breaks}
-use Rattle.mr_seen.proofs.ClientEnds.{commands, client_feeds, client_breaks}
-use Rattle.mr_seen.proofs.Times.{ticks, tick_stops}
+use Rattle.law_protocol.specs.History.{Book}
+use Rattle.law_protocol.specs.Event as events
+use Rattle.law_protocol.specs.Event.Side.{Server, Dialler}
+use Rattle.law_protocol.specs.Changing.{Still}
+use Rattle.law_minired.specs.Minired.{minired}
+use Rattle.mr_node_spec.specs.State.{stopped_as}
+use Rattle.law_refinement.specs.State.{BookEntry, Link, Slot, WorldState}
+use Rattle.law_refinement.specs.Seeing.{seen}
+use Rattle.law_refinement.specs.Books.{entry_of, IsBook}
+use Rattle.law_refinement.specs.Carrying.{fed_caller, restarted_with}
+use Rattle.law_refinement.specs.Events.{IsEvent, Holds}
+use Rattle.law_refinement.specs.OwnEnds.{IsAClients}
+use Rattle.law_refinement.proofs.Beginning.{starts, restarts}
+use Rattle.law_refinement.proofs.Linking.{opens, open_stops, server_feeds, master_feeds, server_breaks, master_breaks}
+use Rattle.law_refinement.proofs.ClientEnds.{commands, client_feeds, client_breaks}
+use Rattle.law_refinement.proofs.Times.{ticks, tick_stops}
 use Rattle.mr_headline.specs.Runs.{Happens, an_event, nothing_seen}
-use Rattle.mr_carrying.specs.AtNode.{is_spent}
-use Rattle.mr_carrying.specs.declared.side.Side.TheVariants as side
+use Rattle.mr_world_parts.specs.AtNode.{is_spent}
+use Rattle.mr_world_parts.specs.declared.side.Side.TheVariants as side
 use Rattle.mr_world.specs.Calls.{AsksAt, BreakCall, Breaks, ClientCall, Clients, CommandCall, LeaveCall, StartCall, TakeCall}
 use Rattle.mr_world.specs.Linking.{BreaksOff, DeliverCall, Delivers, DropCall}
 use Rattle.mr_world.specs.Hearing.{ListenCall, Tells}

@@ -2,18 +2,18 @@
 use Rattle.std.proofs.Common.{◌∙◌, ℕ, List, Some, refl, sym, ap, subst}
 use Rattle.std.specs.Option.{option_map}
 use Rattle.mr_data.specs.declared.given.Given.{Given}
-use Rattle.mr_history.specs.History.{Book}
-use Rattle.mr_history.specs.Changing.{Still}
-use Rattle.mr_history.specs.Changing.Unless.{stopped}
-use Rattle.mr_history.specs.Event as events
-use Rattle.mr_history.specs.Event.Side.{Dialler}
-use Rattle.mr_language.specs.Minired.{minired}
-use Rattle.mr_rows.specs.State.{stopped_as}
-use Rattle.mr_seen.specs.State.{Slot, WorldState}
-use Rattle.mr_seen.specs.Seeing.{seen, seen_follow, seen_link, seen_node, seen_phase}
-use Rattle.mr_seen.specs.Carrying.{followed, put_node}
-use Rattle.mr_seen.specs.Events.{Holds, IsEvent}
-use Rattle.mr_seen.proofs.Masters.{master_lacks, master_spends, master_steps, master_stops, master_waits}
+use Rattle.law_protocol.specs.History.{Book}
+use Rattle.law_protocol.specs.Changing.{Still}
+use Rattle.law_protocol.specs.Changing.Unless.{stopped}
+use Rattle.law_protocol.specs.Event as events
+use Rattle.law_protocol.specs.Event.Side.{Dialler}
+use Rattle.law_minired.specs.Minired.{minired}
+use Rattle.mr_node_spec.specs.State.{stopped_as}
+use Rattle.law_refinement.specs.State.{Slot, WorldState}
+use Rattle.law_refinement.specs.Seeing.{seen, seen_follow, seen_link, seen_node, seen_phase}
+use Rattle.law_refinement.specs.Carrying.{followed, put_node}
+use Rattle.law_refinement.specs.Events.{Holds, IsEvent}
+use Rattle.law_refinement.proofs.Masters.{master_lacks, master_spends, master_steps, master_stops, master_waits}
 use Rattle.mr_world.specs.Linking.{FollowerRests}
 use Rattle.mr_world.specs.Following.{Follows}
 use Rattle.mr_world.proofs.Dialling.{some_follow}

@@ -1,37 +1,32 @@
 -- A step of the node that follows by a link: how its parts make it, and that what is true of each World stays.
-use Rattle.std.proofs.Common.{◌≡◌, ◌≢◌, ◌<◌, ◌⊎◌, inl, inr, ◌∙◌, ℕ, List, true, cond, Option, None, Some, Result, Ok, Err, length, get_or, refl, sym, ap, subst}
+use Rattle.std.proofs.Common.{◌≡◌, ◌≢◌, ◌<◌, ◌∙◌, ℕ, List, true, Option, None, Some, Result, Ok, Err, length, get_or, refl, sym, ap, subst}
 use Rattle.std.specs.Prelude.{slice_get, slice_set}
-use Rattle.std.specs.FinMap.{get, get-remove}
-use Rattle.mr_links.specs.Links.{Links}
 use Rattle.mr_links.specs.declared.link_id.LinkId.{LinkId}
-use Rattle.mr_links.proofs.LinkRows.{ids_total}
 use Rattle.mr_data.specs.declared.given.Given.{Given}
-use Rattle.mr_follow.specs.State.{FollowState}
-use Rattle.mr_course.specs.State.{name_of}
-use Rattle.mr_course.specs.declared.upstream.UpstreamStep.{UpstreamStep}
-use Rattle.mr_course.specs.declared.upstream.UpstreamStep.TheVariants as outcome
-use Rattle.mr_ends.specs.State.{EndState, end_at}
-use Rattle.mr_ends.proofs.Naming.{at_or_other}
-use Rattle.mr_outs.specs.Outs.{OutsState}
-use Rattle.mr_rows.specs.State.{NodeState, end_of, stopped_as}
-use Rattle.mr_rows.specs.Sound.{IsSound}
-use Rattle.mr_rows.specs.UpstreamRows.{ends_behind}
-use Rattle.mr_rows.specs.UpstreamRows as master
+use Rattle.mr_follower.specs.State.{FollowState}
+use Rattle.mr_replication.specs.State.{name_of}
+use Rattle.mr_replication.specs.declared.upstream.UpstreamStep.{UpstreamStep}
+use Rattle.mr_replication.specs.declared.upstream.UpstreamStep.TheVariants as outcome
+use Rattle.mr_node_links.specs.State.{end_at}
+use Rattle.mr_node_output.specs.Outs.{OutsState}
+use Rattle.mr_node_spec.specs.State.{NodeState, end_of, stopped_as}
+use Rattle.mr_node_spec.specs.Sound.{IsSound}
+use Rattle.mr_node_spec.specs.UpstreamRows as master
 use Rattle.mr_node.specs.Calls.{IsUnread}
 use Rattle.mr_node.specs.Steps.{MasterStep, Steps}
 use Rattle.mr_node.specs.declared.fault.NodeFault.{NodeFault}
 use Rattle.mr_node.specs.declared.step.Step.{Step}
-use Rattle.mr_seen.specs.Way.{unread}
-use Rattle.mr_seen.specs.State.{Link, Slot, WorldState}
-use Rattle.mr_seen.specs.Worlds.{IsWorld}
-use Rattle.mr_seen.specs.Carrying.{behind, filed, heard_as, put_node, unread_count}
-use Rattle.mr_seen.proofs.Places.{is_within, set_here, some_is}
-use Rattle.mr_seen.proofs.Masters.{counted}
-use Rattle.mr_seen.proofs.Following.{masters_keep, reads_by}
-use Rattle.mr_seen.proofs.Waiting.{agreed, lacks_alone, lacks_keep, waits_alone, waits_keep}
-use Rattle.mr_carrying.specs.AtLink.{heard_by}
-use Rattle.mr_carrying.specs.Memory.{TakesMemory}
-use Rattle.mr_carrying.proofs.Places.{stands, set_twice}
+use Rattle.law_refinement.specs.Way.{unread}
+use Rattle.law_refinement.specs.State.{Link, Slot, WorldState}
+use Rattle.law_refinement.specs.Worlds.{IsWorld}
+use Rattle.law_refinement.specs.Carrying.{behind, filed, heard_as, put_node, unread_count}
+use Rattle.law_refinement.proofs.Places.{is_within, set_here, some_is}
+use Rattle.law_refinement.proofs.Masters.{counted}
+use Rattle.law_refinement.proofs.Following.{masters_keep, reads_by}
+use Rattle.law_refinement.proofs.Waiting.{agreed, lacks_alone, lacks_keep, waits_alone, waits_keep}
+use Rattle.mr_world_parts.specs.AtLink.{heard_by}
+use Rattle.mr_world_parts.specs.Memory.{TakesMemory}
+use Rattle.mr_world_parts.proofs.Places.{stands, set_twice}
 use Rattle.mr_world.specs.declared.refusal.Refusal.{Refusal}
 use Rattle.mr_world.specs.declared.refusal.Refusal.TheVariants as refusal
 use Rattle.mr_world.specs.Linking.{IsDialler}
@@ -47,29 +42,13 @@ pub follower_here : (w : WorldState) (l n : ℕ) (name : LinkId) → IsWorld w �
 follower_here w l n name is who y slot up = let v = follows_here w l n name who y slot is up in record { link = who.link; slot = who.slot; reader = v.0; by = v.1 }
 
 -- ---- what is left unread at the link to the master
--- the end there stays, or is gone
-stays_or_goes : (came : UpstreamStep) (ends : Links EndState) (name : LinkId) → (end_at (ends_behind came name ends) name ≡ end_at ends name) ⊎ (end_at (ends_behind came name ends) name ≡ None)
-stays_or_goes outcome.Idle ends name = inl refl
-stays_or_goes outcome.Said ends name = inl refl
-stays_or_goes outcome.Announced ends name = inl refl
-stays_or_goes outcome.Continued ends name = inl refl
-stays_or_goes outcome.Loaded ends name = inl refl
-stays_or_goes outcome.Applied ends name = inl refl
-stays_or_goes outcome.Left ends name = inr (get-remove ids_total ends.open_links name name ∙ at_or_other name name (λ b. cond b None (get ends.open_links name) ≡ None) (λ same. refl) (λ ne. absurd (ne refl)))
-stays_or_goes outcome.Spoiled ends name = inr (get-remove ids_total ends.open_links name name ∙ at_or_other name name (λ b. cond b None (get ends.open_links name) ≡ None) (λ same. refl) (λ ne. absurd (ne refl)))
-
 module _ (w : WorldState) (l n : ℕ) (name : LinkId) (is : IsWorld w) (who : IsFollower w l n name) where
-  module _ (came : UpstreamStep) (b : NodeState) (outs : OutsState) (row : master.Hears who.slot.node name came b outs) (sound : IsSound b) (left : Option ℕ) (count : IsUnread b name left) where
+  module _ (came : UpstreamStep) (b : NodeState) (outs : OutsState) (row : master.Hears who.slot.node name came b outs) (left : Option ℕ) (alone : b.follow ≡ None → left ≡ None) (count : b.follow ≢ None → IsUnread b name left) where
     runs : b.core.up ≡ true
     runs = ap (λ (z : NodeState). z.core.up) row.node ∙ who.by.followed.up
 
     left_by : (o : Option (LinkId × FollowState)) → b.follow ≡ o → heard_by left outs.reply who.link ≡ heard_as o outs.reply who.link
-    left_by None e =
-        let none : left ≡ None = elim (stays_or_goes came who.slot.node.ends name) [
-          | inl same ↦ absurd (no_some name (sym (ap name_of e) ∙ sound.node.only name (ap (λ (z : NodeState). end_of z name) row.node ∙ (same ∙ up_end w l n who.link who.slot name who.reader is who.by))))
-          | inr gone ↦ count.absent (ap (λ (z : NodeState). end_of z name) row.node ∙ gone)
-        ] in
-        ap (λ z. heard_by z outs.reply who.link) none
+    left_by None e = ap (λ z. heard_by z outs.reply who.link) (alone e)
     left_by (Some p) e =
         let h = row.listens in
         let text = unread who.link.tell in
@@ -77,7 +56,7 @@ module _ (w : WorldState) (l n : ℕ) (name : LinkId) (is : IsWorld w) (who : Is
         let reads = reads_by who.slot.node h.name h.follow text h.next row.course b.core.held row.told came (h.row text agrees) p.0 p.1 (sym (ap (λ (z : NodeState). z.follow) row.node) ∙ e) in
         let named : p.0 ≡ name = reads.0 ∙ row.named in
         let found : b.follow ≡ Some (name, p.1) = e ∙ ap (λ (z : LinkId). Some (z, p.1)) named in
-        let same : left ≡ Some (unread_count p.1) = count.at_master reads.1.rest runs (record { reader = p.1; found = found; agrees = reads.1.agrees }) ∙ ap Some (sym (counted p.1 reads.1.rest reads.1.agrees)) in
+        let same : left ≡ Some (unread_count p.1) = (count (λ none. no_some p (sym none ∙ e))).at_master reads.1.rest runs (record { reader = p.1; found = found; agrees = reads.1.agrees }) ∙ ap Some (sym (counted p.1 reads.1.rest reads.1.agrees)) in
         ap (λ z. heard_by z outs.reply who.link) same
 
     pub heard_is : heard_by left outs.reply who.link ≡ heard_as b.follow outs.reply who.link
@@ -157,11 +136,13 @@ module _ (w : WorldState) (l n : ℕ) (name : LinkId) (is : IsWorld w) (who : Is
       abbrev heard : HasHeard w l
       heard = record { number = n; name = name; who = who; came = came; whole = some; node = t.node; outs = outs; row = row; sound = sound }
 
-      pub carried : (z y g : Slot) (left : Option ℕ) (k m : Link) → z ≡ get_or (slice_set w.slots n t) n z → IsUnread z.node name left → y ≡ get_or (slice_set w.slots n t) n y → g ≡ record y { file = filed outs y.file }
+      pub carried : (z y g : Slot) (left : Option ℕ) (k m : Link) → z ≡ get_or (slice_set w.slots n t) n z → (z.node.follow ≡ None → left ≡ None) → (z.node.follow ≢ None → IsUnread z.node name left)
+          → y ≡ get_or (slice_set w.slots n t) n y → g ≡ record y { file = filed outs y.file }
           → k ≡ get_or w.links l k → m ≡ heard_by left outs.reply k → Follows w l (record w { slots = slice_set (slice_set w.slots n t) n g; links = slice_set w.links l m })
-      carried z y g left k m first count again f link e =
-          let unread_there : IsUnread t.node name left = subst (λ (q : Slot). IsUnread q.node name left) (read z first) count in
-          let heard_link : m ≡ heard_as t.node.follow outs.reply who.link = e ∙ (ap (λ q. heard_by left outs.reply q) (link_is k link) ∙ heard_is came t.node outs row sound left unread_there) in
+      carried z y g left k m first alone count again f link e =
+          let alone_there : t.node.follow ≡ None → left ≡ None = subst (λ (q : Slot). q.node.follow ≡ None → left ≡ None) (read z first) alone in
+          let unread_there : t.node.follow ≢ None → IsUnread t.node name left = subst (λ (q : Slot). q.node.follow ≢ None → IsUnread q.node name left) (read z first) count in
+          let heard_link : m ≡ heard_as t.node.follow outs.reply who.link = e ∙ (ap (λ q. heard_by left outs.reply q) (link_is k link) ∙ heard_is came t.node outs row left alone_there unread_there) in
           Follows.carries heard (
           ap (λ q. record w { slots = q; links = slice_set w.links l m }) (set_twice w.slots n t g ∙ ap (slice_set w.slots n) (f ∙ ap (λ (q : Slot). record q { file = filed outs q.file }) (read y again ∙ whole)))
           ∙ (ap (λ q. record w { slots = slice_set w.slots n (behind who.slot t.node outs); links = slice_set w.links l q }) heard_link

@@ -3,17 +3,17 @@ use Rattle.std.proofs.Common.{◌≡◌, ◌+◌, ◌<◌, ◌≤◌, ℕ, List,
 use Rattle.std.specs.Prelude.{slice_get, slice_set}
 use Rattle.std.proofs.lemmas.List.{set-get_or}
 use Rattle.mr_links.specs.declared.link_id.LinkId.{LinkId}
-use Rattle.mr_rows.specs.State.{NodeState, stopped_as}
-use Rattle.mr_rows.specs.LinkRows.{Opens, closed_at}
+use Rattle.mr_node_spec.specs.State.{NodeState, stopped_as}
+use Rattle.mr_node_spec.specs.LinkRows.{Opens, closed_at}
 use Rattle.mr_node.specs.Calls.{OpensNoMore}
-use Rattle.mr_seen.specs.Way.{sent_on, taken_on}
-use Rattle.mr_seen.specs.State.{WorldState, Slot, Link, a_client}
-use Rattle.mr_seen.specs.Carrying.{opened_link}
-use Rattle.mr_seen.specs.Worlds.{IsWorld}
-use Rattle.mr_seen.specs.Events.{IsRunning}
-use Rattle.mr_seen.proofs.Places.{is_within, some_is}
-use Rattle.mr_carrying.specs.AtLink.{IsAsking}
-use Rattle.mr_carrying.proofs.Places.{stands}
+use Rattle.law_refinement.specs.Way.{sent_on, taken_on}
+use Rattle.law_refinement.specs.State.{WorldState, Slot, Link, a_client}
+use Rattle.law_refinement.specs.Carrying.{opened_link}
+use Rattle.law_refinement.specs.Worlds.{IsWorld}
+use Rattle.law_refinement.specs.Events.{IsRunning}
+use Rattle.law_refinement.proofs.Places.{is_within, some_is}
+use Rattle.mr_world_parts.specs.AtLink.{IsAsking}
+use Rattle.mr_world_parts.proofs.Places.{stands}
 use Rattle.mr_world.specs.Calls.{Breaks, Clients, Runs, AsksAt, NoneAsks, Sends, Takes, WereNotSent, Leaves, put_link}
 
 pub put_same : {A : Type 0} (xs : List A) (i : ℕ) (x t : A) → x ≡ get_or xs i x → t ≡ x → slice_set xs i t ≡ xs

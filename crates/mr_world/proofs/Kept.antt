@@ -7,24 +7,25 @@ use Rattle.mr_links.specs.declared.link_id.LinkId.{LinkId}
 use Rattle.mr_links.specs.Links.{Links}
 use Rattle.mr_links.proofs.LinkRows.{ids_total}
 use Rattle.mr_repl.specs.ReplId.{IsId}
-use Rattle.mr_follow.specs.State.{FollowState, Agrees}
-use Rattle.mr_ends.specs.State.{EndState, opened_as, streams}
-use Rattle.mr_ends.specs.State.EndState.{client, upstream}
-use Rattle.mr_ends.proofs.Naming.{at_or_other}
-use Rattle.mr_entries.specs.Dataset.{Dataset}
-use Rattle.mr_rows.specs.State.{NodeState, IsNode, end_of, started, stopped_as}
-use Rattle.mr_rows.specs.Sound.{IsReading, IsSound}
-use Rattle.mr_rows.specs.LinkRows.{Opens, closed_at, follow_without}
-use Rattle.mr_state.proofs.Nodes.{closed_node, opened_node}
-use Rattle.mr_seen.specs.Way.{IsWay, no_way, sent_on, taken_on, unread}
-use Rattle.mr_seen.specs.State.{a_client, a_node, Link, Slot, WorldState}
-use Rattle.mr_seen.specs.Worlds.{IsWorld, end_for}
-use Rattle.mr_seen.specs.Carrying.{begun_slot, broken, opened_link, opened, put_node}
-use Rattle.mr_seen.specs.Events.{IsServed}
-use Rattle.mr_seen.specs.Books.{begun}
-use Rattle.mr_seen.proofs.Places.{set_here, set_same}
-use Rattle.mr_seen.proofs.Unread.{sent_way, taken_way, unread_sent}
-use Rattle.mr_seen.proofs.Others.{served_end}
+use Rattle.mr_follower.specs.State.{FollowState, Agrees}
+use Rattle.mr_node_links.specs.State.{EndState, opened_as, streams}
+use Rattle.mr_node_links.specs.State.EndState.{client, upstream}
+use Rattle.mr_node_links.proofs.Naming.{at_or_other}
+use Rattle.mr_keyspace.specs.Dataset.{Dataset}
+use Rattle.mr_node_spec.specs.State.{NodeState, IsNode, end_of, started, stopped_as}
+use Rattle.mr_node_spec.specs.Sound.{IsReading, IsSound}
+use Rattle.mr_node_spec.specs.LinkRows.{Opens, closed_at, follow_without}
+use Rattle.mr_node_state.proofs.Nodes.{closed_node, opened_node}
+use Rattle.law_refinement.specs.Way.{IsWay, no_way, sent_on, taken_on, unread}
+use Rattle.law_refinement.specs.State.{a_client, a_node, Link, Slot, WorldState}
+use Rattle.law_refinement.specs.Worlds.{IsUntouched, IsWorld, end_for}
+use Rattle.law_refinement.specs.Carrying.{begun_slot, broken, opened_link, opened, put_node}
+use Rattle.law_refinement.specs.Events.{IsServed}
+use Rattle.law_refinement.specs.Books.{begun}
+use Rattle.law_refinement.proofs.Places.{set_here, set_same}
+use Rattle.law_refinement.proofs.Unread.{sent_way, taken_way, unread_sent}
+use Rattle.law_refinement.proofs.Unaccepted.{served_not_waiting, untouched_taken}
+use Rattle.law_refinement.proofs.Others.{served_end}
 use Rattle.mr_world.specs.declared.refusal.Refusal.{Refusal}
 use Rattle.mr_world.specs.declared.refusal.Refusal.TheVariants as refusal
 use Rattle.mr_world.specs.Calls.{BreakCall, Breaks, StartCall, ClientCall, Clients, CommandCall, TakeCall, LeaveCall, put_link}
@@ -107,8 +108,11 @@ module _ (w : WorldState) (n : ℕ) (s : Slot) (name : LinkId) (b : NodeState) (
 
   pub opens_world : IsWorld (opened w n s b name)
   opens_world = link_comes (put_node w n s b) (opened_link n name) between no_ways no_ways
-      (record { slot = record s { node = b }; found = set_here w.slots n (record s { node = b }) s at; agrees = λ u q. (None, o.agrees.is) }) apart
+      (record { slot = record s { node = b }; found = set_here w.slots n (record s { node = b }) s at; agrees = λ u q. (None, o.agrees.is) }) (λ u. absurd (served u)) apart
     where
+      served : false ≡ true → ⊥
+      served e = cc
+
       no_ways : IsWay no_way
       no_ways = record { used_within = omega arith; taken_within = omega arith }
 
@@ -127,6 +131,8 @@ client_keeps w v n (Err refusal.InputFull) is c = absurd c
 -- ---- a client's own end
 -- A link changes at its caller's end: what was sent there, what was taken, and whether a client is there still.
 pub record Calls (k m : Link) : Type 0 where
+  pub waits : m.waits ≡ k.waits
+  pub untouched : IsUntouched k → IsUntouched m
   pub to : m.to ≡ k.to
   pub name : m.name ≡ k.name
   pub serving : m.serving ≡ k.serving
@@ -147,6 +153,7 @@ calls_world w l k m is found c =
       serving = λ q. sym c.serving ∙ q;
       ask = c.ask;
       tell = c.tell;
+      untouched = λ u. c.untouched (is.untouched l k found (sym c.waits ∙ u));
       here = λ to up q. let v = h.agrees up (sym c.serving ∙ q) in (v.0, ap (end_of h.slot.node) c.name ∙ (v.1 ∙ ap (λ z. Some z) (ends v.0)));
       others = λ j y ne e to up q. served_end w is k.to h.slot h.found up j y e to q;
       there = λ ne q. ends;
@@ -159,6 +166,8 @@ pub command_keeps : (w v : WorldState) (l : ℕ) (bytes : List ℕ) (r : Result 
 command_keeps w v l bytes (Ok done) is c =
     let way = is.asks l c.link c.at.found in
     subst (λ (z : WorldState). IsWorld z) (sym c.is) (calls_world w l c.link (record c.link { ask = sent_on bytes c.link.ask }) is c.at.found (record {
+      waits = refl;
+      untouched = λ u. record { serving = u.serving; streams = u.streams; ask = u.ask; tell = u.tell };
       to = refl;
       name = refl;
       serving = refl;
@@ -179,6 +188,8 @@ a_clients b n name e = cc
 
 pub take_keeps : (w v : WorldState) (l count : ℕ) (r : Result (Unit {0}) Refusal) → IsWorld w → TakeCall w l count v r → IsWorld v
 take_keeps w v l count (Ok done) is c = subst (λ (z : WorldState). IsWorld z) (sym c.is) (calls_world w l c.link (record c.link { tell = taken_on count c.link.tell }) is c.at.found (record {
+  waits = refl;
+  untouched = untouched_taken c.link count c.sent;
   to = refl;
   name = refl;
   serving = refl;
@@ -196,6 +207,8 @@ take_keeps w v l count (Err refusal.InputFull) is c = absurd c
 
 pub leave_keeps : (w v : WorldState) (l : ℕ) (r : Result (Unit {0}) Refusal) → IsWorld w → LeaveCall w l v r → IsWorld v
 leave_keeps w v l (Ok done) is c = subst (λ (z : WorldState). IsWorld z) (sym c.is) (calls_world w l c.link (record c.link { caller = a_client false }) is c.at.found (record {
+  waits = refl;
+  untouched = λ u. record { serving = u.serving; streams = u.streams; ask = u.ask; tell = u.tell };
   to = refl;
   name = refl;
   serving = refl;
@@ -230,6 +243,7 @@ breaks_world w l k s is v = link_world w k.to s (record s { node = closed_at k.n
   serving = λ q. v.serving;
   ask = is.asks l k v.found;
   tell = is.tells l k v.found;
+  untouched = λ u. absurd (served_not_waiting w is l k v.found v.serving u);
   here = λ to up q. absurd (shut q);
   others = λ j y ne e to up q.
       let served = served_end w is k.to s v.at v.up j y e to q in

@@ -4,22 +4,22 @@ use Rattle.std.specs.Prelude.{slice_get, slice_set}
 use Rattle.std.proofs.lemmas.Option.{slice_get-get_or}
 use Rattle.mr_links.specs.Links.{Links, links_limit}
 use Rattle.mr_links.specs.declared.link_id.LinkId.{LinkId}
-use Rattle.mr_outs.specs.Outs.{OutsState}
-use Rattle.mr_follow.specs.Handshake.{ping_line}
-use Rattle.mr_ends.specs.State.{EndState, end_at}
-use Rattle.mr_rows.specs.State.{Agrees, Core, NodeState, stopped_as}
-use Rattle.mr_rows.specs.Sound.{IsSound}
-use Rattle.mr_rows.specs.LinkRows.{Opens, Dials}
+use Rattle.mr_node_output.specs.Outs.{OutsState}
+use Rattle.mr_follower.specs.Handshake.{ping_line}
+use Rattle.mr_node_links.specs.State.{EndState, end_at}
+use Rattle.mr_node_spec.specs.State.{Agrees, Core, NodeState, stopped_as}
+use Rattle.mr_node_spec.specs.Sound.{IsSound}
+use Rattle.mr_node_spec.specs.LinkRows.{Opens, Dials}
 use Rattle.mr_node.specs.Calls.{OpensNoMore}
 use Rattle.mr_node.specs.declared.fault.NodeFault.{NodeFault}
 use Rattle.mr_node.specs.declared.fault.NodeFault.TheVariants as fault
-use Rattle.mr_seen.specs.Way.{WayState, no_way, sent_on}
-use Rattle.mr_seen.specs.State.{Link, Slot, WorldState, a_node}
-use Rattle.mr_seen.specs.Events.{IsRunning}
-use Rattle.mr_seen.specs.Carrying.{put_node}
-use Rattle.mr_seen.proofs.Places.{is_within, set_cases, set_here, set_there, some_is}
-use Rattle.mr_carrying.specs.AtNode.{DialsBy}
-use Rattle.mr_carrying.proofs.Places.{stands, set_twice}
+use Rattle.law_refinement.specs.Way.{WayState, no_way, sent_on}
+use Rattle.law_refinement.specs.State.{Link, Slot, WorldState, a_node}
+use Rattle.law_refinement.specs.Events.{IsRunning}
+use Rattle.law_refinement.specs.Carrying.{put_node}
+use Rattle.law_refinement.proofs.Places.{is_within, set_cases, set_here, set_there, some_is}
+use Rattle.mr_world_parts.specs.AtNode.{DialsBy}
+use Rattle.mr_world_parts.proofs.Places.{stands, set_twice}
 use Rattle.mr_world.specs.Connecting.{BothRun, CanDial, Dialled, DiallerStops}
 use Rattle.mr_world.proofs.Connects.{opened_once, opened_stopped}
 use Rattle.mr_world.proofs.Joins.{put_same}
@@ -145,7 +145,7 @@ module _ (w : WorldState) (n m : ℕ) (x y : Slot) (n_in : n < length w.slots) (
 
         pub connects_here : (r : Slot) (name : LinkId) (outs : OutsState) (k : Link) (links : List Link) (l : ℕ) (ask : WayState) → l ≡ length w.links → Dials s.node name r.node outs → IsSound r.node
             → r ≡ record s { node = r.node; dialled = l } → ask ≡ sent_on ping_line no_way
-            → k ≡ record { caller = a_node n name; to = m; name = at; serving = true; streams = false; ask = ask; tell = no_way } → links ≡ w.links ++ k ∷ []
+            → k ≡ record { caller = a_node n name; waits = false; to = m; name = at; serving = true; streams = false; ask = ask; tell = no_way } → links ≡ w.links ++ k ∷ []
             → Dialled w n m (record w { slots = slice_set (slice_set w.slots m t) n r; links = links })
         connects_here r name outs k links l ask li d sound rs asked ks ls = Dialled.connects (record {
           server = y;
@@ -164,7 +164,7 @@ module _ (w : WorldState) (n m : ℕ) (x y : Slot) (n_in : n < length w.slots) (
           is = ap (λ (z : Slot). record w { slots = slice_set (slice_set w.slots m z) n r; links = links }) rest
               ∙ (ap (λ (z : Slot). record w { slots = slice_set (slice_set w.slots m (record y { node = t.node })) n z; links = links }) (rs ∙ ap (λ i. record s { node = r.node; dialled = i }) li)
               ∙ ap (λ (z : List Link). record w { slots = slice_set (slice_set w.slots m (record y { node = t.node })) n (record s { node = r.node; dialled = length w.links }); links = z })
-              (ls ∙ ap (λ (z : Link). w.links ++ z ∷ []) (ks ∙ ap (λ (z : WayState). record { caller = a_node n name; to = m; name = at; serving = true; streams = false; ask = z; tell = no_way })
+              (ls ∙ ap (λ (z : Link). w.links ++ z ∷ []) (ks ∙ ap (λ (z : WayState). record { caller = a_node n name; waits = false; to = m; name = at; serving = true; streams = false; ask = z; tell = no_way })
               (asked ∙ ap (λ z. sent_on z no_way) (sym (ap (λ (z : OutsState). z.reply) d.outs_are))))));
         })
 

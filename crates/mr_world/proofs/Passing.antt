@@ -1,9 +1,9 @@
 -- What runs lead through are moments of one run.
 use Rattle.std.proofs.Common.{◌≡◌, ◌≤◌, ℕ, List, [], ◌∷◌, ◌++◌, Some, Result, Ok, Err, length, take, refl, sym, ap, subst, ◌∙◌, arith, length-append}
 use Rattle.std.specs.Prelude.{slice_get}
-use Rattle.mr_seen.specs.State.{WorldState}
-use Rattle.mr_seen.proofs.Beginning.{worlds_begin}
-use Rattle.mr_seen.specs.Worlds.{IsWorld, no_world}
+use Rattle.law_refinement.specs.State.{WorldState}
+use Rattle.law_refinement.proofs.Beginning.{worlds_begin}
+use Rattle.law_refinement.specs.Worlds.{IsWorld, no_world}
 use Rattle.mr_headline.specs.Runs.{Run, IsMoment, last_of}
 use Rattle.mr_headline.proofs.Moments.{no_silent_difference, true_to_history, histories_stay, runs_go_on}
 use Rattle.mr_headline.proofs.Level.{caught_up_is_level}

@@ -5,17 +5,17 @@ use Rattle.std.specs.Option.{option_map}
 use Rattle.std.proofs.lemmas.Option.{slice_get-map}
 use Rattle.mr_links.specs.declared.link_id.LinkId.{LinkId}
 use Rattle.mr_repl.specs.ReplId.{IsId}
-use Rattle.mr_follow.specs.State.{FollowState, Agrees}
-use Rattle.mr_rows.specs.Sound.{IsSound}
-use Rattle.mr_seen.specs.Way.{IsWay, unread}
-use Rattle.mr_seen.specs.State.{BookEntry, Link, Slot, WorldState}
-use Rattle.mr_seen.specs.Worlds.{IsWorld, HasMaster, end_for}
-use Rattle.mr_seen.specs.Books.{begun}
-use Rattle.mr_seen.specs.Carrying.{restarted_with, shut_if}
-use Rattle.mr_seen.proofs.Places.{some_is}
-use Rattle.mr_carrying.specs.AtNode.{IsLoaded}
-use Rattle.mr_carrying.specs.AtLink.{shut_at}
-use Rattle.mr_carrying.proofs.Places.{stands}
+use Rattle.mr_follower.specs.State.{FollowState, Agrees}
+use Rattle.mr_node_spec.specs.Sound.{IsSound}
+use Rattle.law_refinement.specs.Way.{IsWay, unread}
+use Rattle.law_refinement.specs.State.{BookEntry, Link, Slot, WorldState}
+use Rattle.law_refinement.specs.Worlds.{IsUntouched, IsWorld, HasMaster, end_for}
+use Rattle.law_refinement.specs.Books.{begun}
+use Rattle.law_refinement.specs.Carrying.{restarted_with, shut_if}
+use Rattle.law_refinement.proofs.Places.{some_is}
+use Rattle.mr_world_parts.specs.AtNode.{IsLoaded}
+use Rattle.mr_world_parts.specs.AtLink.{shut_at}
+use Rattle.mr_world_parts.proofs.Places.{stands}
 use Rattle.mr_world.specs.declared.refusal.Refusal.{Refusal}
 use Rattle.mr_world.specs.declared.refusal.Refusal.TheVariants as refusal
 use Rattle.mr_world.specs.Restarting.{IsThere, RestartCall, Restarts}
@@ -27,6 +27,8 @@ no_some x e = cc
 
 -- ---- a link whose server's end closes, or not
 record Shuts (b : Bool) (x y : Link) : Type 0 where
+  waits : y.waits ≡ x.waits
+  untouched : IsUntouched x → IsUntouched y
   to : y.to ≡ x.to
   name : y.name ≡ x.name
   caller : y.caller ≡ x.caller
@@ -37,11 +39,11 @@ record Shuts (b : Bool) (x y : Link) : Type 0 where
   open_now : y.serving ≡ true → b ≡ false
 
 shuts_one : (b : Bool) (x : Link) → Shuts b x (shut_if b x)
-shuts_one true x = record { to = refl; name = refl; caller = refl; streams = refl; ask = refl; tell = refl; serving = λ e. absurd (no e); open_now = λ e. absurd (no e) }
+shuts_one true x = record { waits = refl; untouched = λ u. record { serving = refl; streams = u.streams; ask = u.ask; tell = u.tell }; to = refl; name = refl; caller = refl; streams = refl; ask = refl; tell = refl; serving = λ e. absurd (no e); open_now = λ e. absurd (no e) }
   where
     no : false ≡ true → ⊥
     no e = cc
-shuts_one false x = record { to = refl; name = refl; caller = refl; streams = refl; ask = refl; tell = refl; serving = λ e. e; open_now = λ e. refl }
+shuts_one false x = record { waits = refl; untouched = λ u. u; to = refl; name = refl; caller = refl; streams = refl; ask = refl; tell = refl; serving = λ e. e; open_now = λ e. refl }
 
 from_map : (f : Link → Link) (o : Option Link) (y : Link) → option_map f o ≡ Some y → (x : Link) × (o ≡ Some x) × (y ≡ f x)
 from_map f None y e = absurd (no_some y e)
@@ -52,7 +54,7 @@ here_is m n e f = grind arith
 
 -- ---- what is true of each World doesn't speak of the book
 other_book : (w : WorldState) (book : List BookEntry) → IsWorld w → IsWorld (record w { book = book })
-other_book w book is = record { asks = is.asks; tells = is.tells; servers = is.servers; names = is.names; nodes = is.nodes; followers = is.followers }
+other_book w book is = record { asks = is.asks; tells = is.tells; servers = is.servers; untouched = is.untouched; names = is.names; nodes = is.nodes; followers = is.followers }
 
 module _ (w : WorldState) (n : ℕ) (s t : Slot) (is : IsWorld w) (at : slice_get w.slots n ≡ Some s) (sound : IsSound t.node) (alone : t.node.follow ≡ None) where
   abbrev links : List Link
@@ -78,6 +80,7 @@ module _ (w : WorldState) (n : ℕ) (s t : Slot) (is : IsWorld w) (at : slice_ge
     origin = λ j y e. let x = was j y e in record { link = x.0; found = x.1; to = x.2.to; name = x.2.name; serving = x.2.serving };
     asks = λ j y e. let x = was j y e in subst IsWay (sym x.2.ask) (is.asks j x.0 x.1);
     tells = λ j y e. let x = was j y e in subst IsWay (sym x.2.tell) (is.tells j x.0 x.1);
+    untouched = λ j y e u. let x = was j y e in x.2.untouched (is.untouched j x.0 x.1 (sym x.2.waits ∙ u));
     here = λ j y e to up q. let x = was j y e in absurd (here_is x.0.to n (sym x.2.to ∙ to) (x.2.open_now q));
     there = λ j x y d e apart q held.
         let v = was j y e in

@@ -3,23 +3,23 @@ use Rattle.std.proofs.Common.{◌≡◌, ◌≢◌, ℕ, List, [], ◌∷◌, tr
 use Rattle.mr_links.specs.Links.{Links}
 use Rattle.mr_links.specs.declared.link_id.LinkId.{LinkId}
 use Rattle.mr_data.specs.declared.given.Given.{Given}
-use Rattle.mr_follow.specs.State.{FollowState}
-use Rattle.mr_course.specs.State.{name_of}
+use Rattle.mr_follower.specs.State.{FollowState}
+use Rattle.mr_replication.specs.State.{name_of}
 use Rattle.mr_groups.specs.Groups.{grown_text}
-use Rattle.mr_ends.specs.State.{EndState, Transaction, begun, end_at, streams}
-use Rattle.mr_ends.specs.State.EndState.{client, waiting, upstream}
-use Rattle.mr_ends.specs.Replicas.{is_named}
-use Rattle.mr_ends.proofs.Naming.{at_or_other}
-use Rattle.mr_outs.specs.Outs.{OutsState, Output}
-use Rattle.mr_rows.specs.State.{Core, NodeState, FollowedAt, end_of}
-use Rattle.mr_rows.specs.Ends.{names_of}
-use Rattle.mr_rows.specs.Growing.{FedTo}
-use Rattle.mr_rows.specs.Telling.{Around}
-use Rattle.mr_rows.specs.Served.{Answered, Served}
-use Rattle.mr_rows.specs.ClientRows.{ClientRow}
-use Rattle.mr_rows.specs.Transactions.{WithinRow}
-use Rattle.mr_rows.specs.ReplicaRows.{ReplicaRow}
-use Rattle.mr_carrying.specs.Answering.{EndsAs, IsBehind}
+use Rattle.mr_node_links.specs.State.{EndState, Transaction, begun, end_at, streams}
+use Rattle.mr_node_links.specs.State.EndState.{client, waiting, upstream}
+use Rattle.mr_node_links.specs.Replicas.{is_named}
+use Rattle.mr_node_links.proofs.Naming.{at_or_other}
+use Rattle.mr_node_output.specs.Outs.{OutsState, Output}
+use Rattle.mr_node_spec.specs.State.{Core, NodeState, FollowedAt, end_of}
+use Rattle.mr_node_spec.specs.Ends.{names_of}
+use Rattle.mr_node_spec.specs.Growing.{FedTo}
+use Rattle.mr_node_spec.specs.Telling.{Around}
+use Rattle.mr_node_spec.specs.Served.{Answered, Served}
+use Rattle.mr_node_spec.specs.ClientRows.{ClientRow}
+use Rattle.mr_node_spec.specs.Transactions.{WithinRow}
+use Rattle.mr_node_spec.specs.ReplicaRows.{ReplicaRow}
+use Rattle.mr_world_parts.specs.Answering.{EndsAs, IsBehind}
 
 -- ---- the node runs on
 answered_up : (c d : Core) (around : Around) (words : List (List ℕ)) (given : Given) (out : Output) → Answered c around words given d out → d.up ≡ c.up

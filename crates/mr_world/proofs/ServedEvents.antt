@@ -4,21 +4,22 @@ use Rattle.std.specs.Prelude.{bytes_eq, is_some}
 use Rattle.std.specs.Option.{option_map}
 use Rattle.mr_data.specs.declared.given.Given.{Given}
 use Rattle.mr_repl.specs.ReplId.{zero_id}
-use Rattle.mr_rows.specs.State.{stopped_as}
-use Rattle.mr_history.specs.History.{Book}
-use Rattle.mr_history.specs.Event as events
-use Rattle.mr_history.specs.Event.Side.{Server}
-use Rattle.mr_history.specs.Changing.Unless.{stopped}
-use Rattle.mr_language.specs.Minired.{minired}
-use Rattle.mr_seen.specs.State.{BookEntry, Link, WorldState}
-use Rattle.mr_seen.specs.Seeing.{seen_link, seen_node}
-use Rattle.mr_seen.specs.Books.{entry_of}
-use Rattle.mr_seen.specs.Carrying.{stepped}
-use Rattle.mr_seen.specs.Events.{Holds, IsEvent}
-use Rattle.mr_seen.proofs.Replicas.{idle_steps, replica_steps, stopped_steps}
-use Rattle.mr_seen.proofs.Roles.{client_steps}
-use Rattle.mr_seen.proofs.Within.{within_steps}
-use Rattle.mr_carrying.specs.AtNode.{is_spent}
+use Rattle.mr_node_spec.specs.State.{stopped_as}
+use Rattle.law_protocol.specs.History.{Book}
+use Rattle.law_protocol.specs.Event as events
+use Rattle.law_protocol.specs.Event.Side.{Server}
+use Rattle.law_protocol.specs.Changing.Unless.{stopped}
+use Rattle.law_minired.specs.Minired.{minired}
+use Rattle.law_refinement.specs.State.{BookEntry, Link, WorldState}
+use Rattle.law_refinement.specs.Seeing.{seen_link, seen_node}
+use Rattle.law_refinement.specs.Books.{entry_of}
+use Rattle.law_refinement.specs.Carrying.{stepped}
+use Rattle.law_refinement.specs.Events.{Holds, IsEvent}
+use Rattle.law_refinement.proofs.Replicas.{idle_steps, replica_steps, stopped_steps}
+use Rattle.law_refinement.proofs.Roles.{client_steps}
+use Rattle.law_refinement.proofs.Unaccepted.{served_to}
+use Rattle.law_refinement.proofs.Within.{within_steps}
+use Rattle.mr_world_parts.specs.AtNode.{is_spent}
 use Rattle.mr_world.specs.Calls.{IsDown, ServesAt}
 use Rattle.mr_world.specs.Serving.{HasServed, ServedRow, Serves}
 use Rattle.mr_world.proofs.Spent.{spends_down}
@@ -46,7 +47,7 @@ module _ (w : WorldState) (book : Book minired) (l : ℕ) (given : Given) (fresh
     new_book = book;
     kept = holds.kept;
     row = record {
-      at = record { link = seen_link w.slots k; found = ap (option_map (seen_link w.slots)) at.found; n = k.to; to = refl; serving = at.serving; node = seen_node down.slot; node_found = ap (option_map seen_node) down.at };
+      at = record { link = seen_link w.slots k; found = ap (option_map (seen_link w.slots)) at.found; n = k.to; to = served_to w holds.world l k at.found at.serving; serving = at.serving; node = seen_node down.slot; node_found = ap (option_map seen_node) down.at };
       does = stopped down.down (record { nodes = λ i. refl; links = λ j. refl; book = λ i. refl });
     };
   }

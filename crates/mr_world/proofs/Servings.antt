@@ -3,24 +3,24 @@ use Rattle.std.proofs.Common.{◌≡◌, ◌<◌, inl, inr, ◌∙◌, ℕ, List
 use Rattle.std.specs.Prelude.{slice_get, slice_set}
 use Rattle.mr_links.specs.declared.link_id.LinkId.{LinkId}
 use Rattle.mr_data.specs.declared.given.Given.{Given}
-use Rattle.mr_outs.specs.Outs.{OutsState}
-use Rattle.mr_ends.specs.State.{Transaction}
-use Rattle.mr_rows.specs.State.{Agrees, AgreesWithin, NodeState, end_of, shown, stopped_as}
-use Rattle.mr_rows.specs.Sound.{IsSound}
+use Rattle.mr_node_output.specs.Outs.{OutsState}
+use Rattle.mr_node_links.specs.State.{Transaction}
+use Rattle.mr_node_spec.specs.State.{Agrees, AgreesWithin, NodeState, end_of, shown, stopped_as}
+use Rattle.mr_node_spec.specs.Sound.{IsSound}
 use Rattle.mr_node.specs.Steps.{ClientStep, ReplicaStep, Steps}
 use Rattle.mr_node.specs.Within.{WithinStep}
 use Rattle.mr_node.specs.declared.fault.NodeFault.{NodeFault}
 use Rattle.mr_node.specs.declared.fault.NodeFault.TheVariants as fault
 use Rattle.mr_node.specs.declared.step.Step.{Step}
 use Rattle.mr_node.specs.declared.step.Step.TheVariants as step
-use Rattle.mr_seen.specs.Way.{unread}
-use Rattle.mr_seen.specs.State.{BookEntry, Link, Slot, WorldState}
-use Rattle.mr_seen.specs.Worlds.{IsWorld, end_for}
-use Rattle.mr_seen.specs.Carrying.{behind, booked_as, filed, put_node, stepped}
-use Rattle.mr_seen.proofs.Places.{is_within, set_here, set_same, some_is}
-use Rattle.mr_seen.proofs.Turning.{clients_keep, within_keep, replicas_keep}
-use Rattle.mr_carrying.specs.Answering.{Carries, IsBehind, IsServing, answered_links, carried_as}
-use Rattle.mr_carrying.proofs.Places.{stands, set_twice}
+use Rattle.law_refinement.specs.Way.{unread}
+use Rattle.law_refinement.specs.State.{BookEntry, Link, Slot, WorldState}
+use Rattle.law_refinement.specs.Worlds.{IsWorld, end_for}
+use Rattle.law_refinement.specs.Carrying.{behind, booked_as, filed, put_node, stepped}
+use Rattle.law_refinement.proofs.Places.{is_within, set_here, set_same, some_is}
+use Rattle.law_refinement.proofs.Turning.{clients_keep, within_keep, replicas_keep}
+use Rattle.mr_world_parts.specs.Answering.{Carries, IsBehind, IsServing, answered_links, carried_as}
+use Rattle.mr_world_parts.proofs.Places.{stands, set_twice}
 use Rattle.mr_world.specs.declared.refusal.Refusal.{Refusal}
 use Rattle.mr_world.specs.declared.refusal.Refusal.TheVariants as refusal
 use Rattle.mr_world.specs.Serving.{HasServed, MayLackAt, NeedsMemory, ServedRow, Serves, Spends, StepCall}

@@ -2,8 +2,8 @@
 use Rattle.std.proofs.Common.{zero, suc, ◌≡◌, ◌+◌, ◌≤◌, ℕ, length, arith, List, [], ◌∷◌, ◌++◌, Some, Ok, take, drop, refl, sym, subst}
 use Rattle.std.specs.Prelude.{slice_get}
 use Rattle.std.proofs.lemmas.List.{take_all}
-use Rattle.mr_seen.specs.State.{WorldState}
-use Rattle.mr_seen.specs.Worlds.{IsWorld}
+use Rattle.law_refinement.specs.State.{WorldState}
+use Rattle.law_refinement.specs.Worlds.{IsWorld}
 use Rattle.mr_headline.specs.Runs.{last_of}
 use Rattle.mr_world.specs.declared.event.Event.{Event}
 use Rattle.mr_world.specs.Running.{AreMoments, EventCall, TookAll}

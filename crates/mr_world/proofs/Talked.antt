@@ -10,26 +10,26 @@ use Rattle.mr_resp.specs.Usual.{usual}
 use Rattle.mr_effect.specs.Spelling.{texts}
 use Rattle.mr_groups.specs.Groups.{grown_text}
 use Rattle.mr_links.specs.declared.link_id.LinkId.{LinkId}
-use Rattle.mr_ends.specs.State.{EndState, Transaction, begun, unread_in}
-use Rattle.mr_ends.specs.State.EndState.{shut}
-use Rattle.mr_outs.specs.Outs.{OutsState}
-use Rattle.mr_rows.specs.State.{Core, NodeState, end_of}
-use Rattle.mr_rows.specs.Requests.{Asks, AsksNothing}
-use Rattle.mr_rows.specs.Telling.{Around}
-use Rattle.mr_rows.specs.Served.{Served}
-use Rattle.mr_rows.specs.ClientRows.{ClientRow}
-use Rattle.mr_rows.specs.Transactions.{WithinRow}
-use Rattle.mr_rows.specs.ReplicaRows.{ReplicaRow, IsExpected}
-use Rattle.mr_rows.specs.TimeRows.{TickRow, Rests}
-use Rattle.mr_outs.specs.Outs.{Output}
-use Rattle.mr_seen.specs.Way.{WayState, IsWay, taken_on, unread}
-use Rattle.mr_seen.specs.State.{a_client, Link, Slot, WorldState}
-use Rattle.mr_seen.specs.Worlds.{IsWorld, end_for}
-use Rattle.mr_seen.specs.Carrying.{reached, settled, shut_if, stepped, told}
-use Rattle.mr_seen.proofs.Places.{set_here, set_there, some_is}
-use Rattle.mr_seen.proofs.Open.{eqb_yes}
+use Rattle.mr_node_links.specs.State.{EndState, Transaction, begun, unread_in}
+use Rattle.mr_node_links.specs.State.EndState.{shut}
+use Rattle.mr_node_output.specs.Outs.{OutsState}
+use Rattle.mr_node_spec.specs.State.{Core, NodeState, end_of}
+use Rattle.mr_node_spec.specs.Requests.{Asks, AsksNothing}
+use Rattle.mr_node_spec.specs.Telling.{Around}
+use Rattle.mr_node_spec.specs.Served.{Served}
+use Rattle.mr_node_spec.specs.ClientRows.{ClientRow}
+use Rattle.mr_node_spec.specs.Transactions.{WithinRow}
+use Rattle.mr_node_spec.specs.ReplicaRows.{ReplicaRow, IsExpected}
+use Rattle.mr_node_spec.specs.TimeRows.{TickRow, Rests}
+use Rattle.mr_node_output.specs.Outs.{Output}
+use Rattle.law_refinement.specs.Way.{WayState, IsWay, taken_on, unread}
+use Rattle.law_refinement.specs.State.{a_client, Link, Slot, WorldState}
+use Rattle.law_refinement.specs.Worlds.{IsWorld, end_for}
+use Rattle.law_refinement.specs.Carrying.{reached, settled, shut_if, stepped, told}
+use Rattle.law_refinement.proofs.Places.{set_here, set_there, some_is}
+use Rattle.law_refinement.proofs.Open.{eqb_yes}
 use Rattle.mr_headline.specs.Runs.{last_of}
-use Rattle.mr_carrying.specs.declared.side.Side.TheVariants as side
+use Rattle.mr_world_parts.specs.declared.side.Side.TheVariants as side
 use Rattle.mr_world.specs.declared.event.Event.{Event}
 use Rattle.mr_world.specs.declared.event.Event.TheVariants as event
 use Rattle.mr_world.specs.Calls.{Clients, ClientCall, CommandCall, TakeCall, LeaveCall, Breaks, BreakCall}

@@ -6,20 +6,20 @@ use Rattle.std.proofs.Math.Seq.{take-add}
 use Rattle.std.proofs.lemmas.List.{take-append-drop}
 use Rattle.std.proofs.lemmas.Option.{slice_get-map}
 use Rattle.mr_links.specs.declared.link_id.LinkId.{LinkId}
-use Rattle.mr_ends.specs.State.{EndState, Transaction, streams}
-use Rattle.mr_ends.specs.State.EndState.{client, waiting, replica, upstream, shut}
-use Rattle.mr_ends.specs.Replicas.{is_named}
-use Rattle.mr_outs.specs.Outs.{OutsState}
-use Rattle.mr_rows.specs.State.{NodeState, end_of}
-use Rattle.mr_rows.specs.Growing.{FedTo}
-use Rattle.mr_follow.specs.State.{FollowState}
-use Rattle.mr_seen.specs.Way.{WayState, IsWay, sent_on, unread}
-use Rattle.mr_seen.specs.State.{Link, Slot, WorldState}
-use Rattle.mr_seen.specs.Worlds.{IsWorld, end_for}
-use Rattle.mr_seen.specs.Carrying.{fed_if, heard_as, is_at, reached, said_by, said_on, settled, shut_if, told, unread_count}
-use Rattle.mr_seen.proofs.Places.{push_old, set_here, set_there, some_is}
-use Rattle.mr_seen.proofs.Unread.{left_used, take_front}
-use Rattle.mr_seen.proofs.Others.{served_end, streams_for}
+use Rattle.mr_node_links.specs.State.{EndState, Transaction, streams}
+use Rattle.mr_node_links.specs.State.EndState.{client, waiting, replica, upstream, shut}
+use Rattle.mr_node_links.specs.Replicas.{is_named}
+use Rattle.mr_node_output.specs.Outs.{OutsState}
+use Rattle.mr_node_spec.specs.State.{NodeState, end_of}
+use Rattle.mr_node_spec.specs.Growing.{FedTo}
+use Rattle.mr_follower.specs.State.{FollowState}
+use Rattle.law_refinement.specs.Way.{WayState, IsWay, sent_on, unread}
+use Rattle.law_refinement.specs.State.{Link, Slot, WorldState}
+use Rattle.law_refinement.specs.Worlds.{IsWorld, end_for}
+use Rattle.law_refinement.specs.Carrying.{fed_if, heard_as, is_at, reached, said_by, said_on, settled, shut_if, told, unread_count}
+use Rattle.law_refinement.proofs.Places.{push_old, set_here, set_there, some_is}
+use Rattle.law_refinement.proofs.Unread.{left_used, take_front}
+use Rattle.law_refinement.proofs.Others.{served_end, streams_for}
 use Rattle.mr_world.specs.Talking.{Turn, all_said, all_used, used_at}
 
 said_join : (xs ys : List Turn) → all_said (xs ++ ys) ≡ all_said xs ++ all_said ys

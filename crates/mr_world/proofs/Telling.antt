@@ -2,19 +2,20 @@
 use Rattle.std.proofs.Common.{◌≡◌, ◌≢◌, ◌+◌, ◌≤◌, ℕ, List, [], true, false, Bool, Option, None, Some, Result, Ok, Err, length, get_or, take, drop, refl, sym, ap, subst, ◌∙◌}
 use Rattle.std.specs.Prelude.{slice_get, slice_set}
 use Rattle.mr_links.specs.declared.link_id.LinkId.{LinkId}
-use Rattle.mr_follow.specs.State.{FollowState, Agrees}
-use Rattle.mr_ends.specs.State.{EndState, serves}
-use Rattle.mr_ends.specs.State.EndState.{upstream}
-use Rattle.mr_rows.specs.State.{NodeState, IsTooMuch, end_of}
-use Rattle.mr_rows.specs.Sound.{IsSound}
-use Rattle.mr_rows.specs.LinkRows.{Feeds}
-use Rattle.mr_seen.specs.Way.{taken_on, unread}
-use Rattle.mr_seen.specs.State.{a_node, Link, Slot, WorldState}
-use Rattle.mr_seen.specs.Worlds.{IsWorld, HasMaster}
-use Rattle.mr_seen.specs.Carrying.{fed_caller}
-use Rattle.mr_seen.proofs.Places.{set_here, some_is}
-use Rattle.mr_seen.proofs.Unread.{taken_way, unread_taken}
-use Rattle.mr_seen.proofs.Others.{served_end}
+use Rattle.mr_follower.specs.State.{FollowState, Agrees}
+use Rattle.mr_node_links.specs.State.{EndState, serves}
+use Rattle.mr_node_links.specs.State.EndState.{upstream}
+use Rattle.mr_node_spec.specs.State.{NodeState, IsTooMuch, end_of}
+use Rattle.mr_node_spec.specs.Sound.{IsSound}
+use Rattle.mr_node_spec.specs.LinkRows.{Feeds}
+use Rattle.law_refinement.specs.Way.{taken_on, unread}
+use Rattle.law_refinement.specs.State.{a_node, Link, Slot, WorldState}
+use Rattle.law_refinement.specs.Worlds.{IsWorld, HasMaster}
+use Rattle.law_refinement.specs.Carrying.{fed_caller}
+use Rattle.law_refinement.proofs.Places.{set_here, some_is}
+use Rattle.law_refinement.proofs.Unread.{taken_way, unread_taken}
+use Rattle.law_refinement.proofs.Unaccepted.{untouched_taken}
+use Rattle.law_refinement.proofs.Others.{served_end}
 use Rattle.mr_world.specs.declared.refusal.Refusal.{Refusal}
 use Rattle.mr_world.specs.declared.refusal.Refusal.TheVariants as refusal
 use Rattle.mr_world.specs.Linking.{FollowsBy, IsDialler}
@@ -58,6 +59,7 @@ module _ (w : WorldState) (l n : ℕ) (k : Link) (s : Slot) (name : LinkId) (f :
     serving = λ q. q;
     ask = is.asks l k found;
     tell = taken_way k.tell count (is.tells l k found) t.sent;
+    untouched = λ u. untouched_taken k count t.sent (is.untouched l k found u);
     here = λ to up q. serves_still l k found to q;
     others = λ j y ne e to up q. serves_still j y e to q;
     there = λ ne q held. refl;

@@ -1,17 +1,17 @@
 -- How the parts of an event make it in which a node gives something out, and that what is true of each World stays.
 use Rattle.std.proofs.Common.{◌≡◌, ◌<◌, ◌∙◌, ℕ, ℤ, List, Bool, true, false, cond, Option, None, Some, Result, Ok, Err, length, map, get_or, refl, sym, ap, subst}
 use Rattle.std.specs.Prelude.{slice_get, slice_set}
-use Rattle.mr_outs.specs.Outs.{OutsState}
-use Rattle.mr_rows.specs.Sound.{IsSound}
-use Rattle.mr_rows.specs.State.{Core, NodeState, shown, stopped_as}
-use Rattle.mr_rows.specs.TimeRows.{TickRow}
-use Rattle.mr_seen.specs.State.{BookEntry, Link, Slot, WorldState}
-use Rattle.mr_seen.specs.Worlds.{IsWorld}
-use Rattle.mr_seen.specs.Carrying.{booked_as, filed, reached, said_on}
-use Rattle.mr_seen.proofs.Places.{is_within, set_here, some_is}
-use Rattle.mr_seen.proofs.Kept.{ticks_keep}
-use Rattle.mr_carrying.specs.Memory.{TakesMemory}
-use Rattle.mr_carrying.proofs.Places.{stands, set_twice}
+use Rattle.mr_node_output.specs.Outs.{OutsState}
+use Rattle.mr_node_spec.specs.Sound.{IsSound}
+use Rattle.mr_node_spec.specs.State.{Core, NodeState, shown, stopped_as}
+use Rattle.mr_node_spec.specs.TimeRows.{TickRow}
+use Rattle.law_refinement.specs.State.{BookEntry, Link, Slot, WorldState}
+use Rattle.law_refinement.specs.Worlds.{IsWorld}
+use Rattle.law_refinement.specs.Carrying.{booked_as, filed, reached, said_on}
+use Rattle.law_refinement.proofs.Places.{is_within, set_here, some_is}
+use Rattle.law_refinement.proofs.Kept.{ticks_keep}
+use Rattle.mr_world_parts.specs.Memory.{TakesMemory}
+use Rattle.mr_world_parts.proofs.Places.{stands, set_twice}
 use Rattle.mr_world.specs.declared.refusal.Refusal.{Refusal}
 use Rattle.mr_world.specs.declared.refusal.Refusal.TheVariants as refusal
 use Rattle.mr_world.specs.Calls.{Runs}

@@ -1,12 +1,12 @@
 -- An event that is refused changes nothing, or nothing that histories see.
 use Rattle.std.proofs.Common.{◌≡◌, ℕ, Bool, true, false, Err, sym, ap, subst}
 use Rattle.std.specs.Prelude.{slice_get}
-use Rattle.mr_seen.specs.State.{WorldState}
-use Rattle.mr_seen.specs.Books.{IsBook}
-use Rattle.mr_seen.specs.Worlds.{IsWorld}
-use Rattle.mr_seen.proofs.Waiting.{lacks_keep}
+use Rattle.law_refinement.specs.State.{WorldState}
+use Rattle.law_refinement.specs.Books.{IsBook}
+use Rattle.law_refinement.specs.Worlds.{IsWorld}
+use Rattle.law_refinement.proofs.Waiting.{lacks_keep}
 use Rattle.mr_headline.specs.Runs.{Happens, nothing_seen}
-use Rattle.mr_carrying.specs.declared.side.Side.TheVariants as side
+use Rattle.mr_world_parts.specs.declared.side.Side.TheVariants as side
 use Rattle.mr_world.specs.declared.event.Event.{Event}
 use Rattle.mr_world.specs.declared.event.Event.TheVariants as event
 use Rattle.mr_world.specs.declared.refusal.Refusal.{Refusal}

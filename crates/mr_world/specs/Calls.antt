@@ -3,14 +3,14 @@ use Rattle.std.specs.Prelude.{◌≡◌, ◌≤◌, ◌+◌, ℕ, List, [], Bool
 use Rattle.std.specs.FinMap.{empty}
 use Rattle.mr_links.specs.declared.link_id.LinkId.{LinkId}
 use Rattle.mr_links.specs.Links.{links_limit}
-use Rattle.mr_rows.specs.State.{NodeState, stopped_as}
-use Rattle.mr_rows.specs.LinkRows.{Opens, closed_at}
-use Rattle.mr_seen.specs.Way.{sent_on, taken_on}
-use Rattle.mr_seen.specs.State.{a_client, Link, Slot, WorldState}
-use Rattle.mr_seen.specs.Events.{IsRunning, IsServed}
-use Rattle.mr_seen.specs.Carrying.{begun_slot, broken, opened, put_node, started_with}
-use Rattle.mr_carrying.specs.AtLink.{IsAsking}
-use Rattle.mr_carrying.specs.AtNode.{is_spent}
+use Rattle.mr_node_spec.specs.State.{NodeState, stopped_as}
+use Rattle.mr_node_spec.specs.LinkRows.{Opens, closed_at}
+use Rattle.law_refinement.specs.Way.{sent_on, taken_on}
+use Rattle.law_refinement.specs.State.{a_client, Link, Slot, WorldState}
+use Rattle.law_refinement.specs.Events.{IsRunning, IsServed}
+use Rattle.law_refinement.specs.Carrying.{begun_slot, broken, opened, put_node, started_with}
+use Rattle.mr_world_parts.specs.AtLink.{IsAsking}
+use Rattle.mr_world_parts.specs.AtNode.{is_spent}
 use Rattle.mr_world.specs.declared.refusal.Refusal.{Refusal}
 use Rattle.mr_world.specs.declared.refusal.Refusal.TheVariants as refusal
 

@@ -2,13 +2,13 @@
 use Rattle.std.specs.Prelude.{◌≡◌, ◌≤◌, ℕ, true, false, Some, None, Result, Ok, Err, slice_get, slice_set}
 use Rattle.mr_links.specs.declared.link_id.LinkId.{LinkId}
 use Rattle.mr_links.specs.Links.{links_limit}
-use Rattle.mr_outs.specs.Outs.{OutsState}
-use Rattle.mr_rows.specs.State.{NodeState, stopped_as}
-use Rattle.mr_rows.specs.Sound.{IsSound}
-use Rattle.mr_rows.specs.LinkRows.{Opens, Dials}
-use Rattle.mr_seen.specs.State.{Slot, WorldState}
-use Rattle.mr_seen.specs.Events.{IsRunning}
-use Rattle.mr_seen.specs.Carrying.{connected, put_node}
+use Rattle.mr_node_output.specs.Outs.{OutsState}
+use Rattle.mr_node_spec.specs.State.{NodeState, stopped_as}
+use Rattle.mr_node_spec.specs.Sound.{IsSound}
+use Rattle.mr_node_spec.specs.LinkRows.{Opens, Dials}
+use Rattle.law_refinement.specs.State.{Slot, WorldState}
+use Rattle.law_refinement.specs.Events.{IsRunning}
+use Rattle.law_refinement.specs.Carrying.{connected, put_node}
 use Rattle.mr_world.specs.declared.refusal.Refusal.{Refusal}
 use Rattle.mr_world.specs.declared.refusal.Refusal.TheVariants as refusal
 use Rattle.mr_world.specs.Calls.{IsDown}

@@ -1,10 +1,10 @@
 -- What a dial is among histories.
 use Rattle.std.specs.Prelude.{ℕ}
-use Rattle.mr_history.specs.History.{Book}
-use Rattle.mr_history.specs.Event as events
-use Rattle.mr_language.specs.Minired.{minired}
-use Rattle.mr_seen.specs.State.{WorldState}
-use Rattle.mr_seen.specs.Events.{Holds, IsEvent}
+use Rattle.law_protocol.specs.History.{Book}
+use Rattle.law_protocol.specs.Event as events
+use Rattle.law_minired.specs.Minired.{minired}
+use Rattle.law_refinement.specs.State.{WorldState}
+use Rattle.law_refinement.specs.Events.{Holds, IsEvent}
 use Rattle.mr_world.specs.Connecting.{CanDial, Dialled}
 
 -- A dial, as it is taken, is one of histories, whatever came of it.

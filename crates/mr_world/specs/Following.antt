@@ -2,17 +2,17 @@
 -- there of a snapshot, and keeps that.
 use Rattle.std.specs.Prelude.{◌≡◌, ◌≢◌, ℕ, List, None, true, false, Result, Ok, Err}
 use Rattle.mr_links.specs.declared.link_id.LinkId.{LinkId}
-use Rattle.mr_follow.specs.State.{FollowState}
-use Rattle.mr_course.specs.declared.upstream.UpstreamStep.{UpstreamStep}
-use Rattle.mr_course.specs.declared.upstream.UpstreamStep.TheVariants as outcome
-use Rattle.mr_outs.specs.Outs.{OutsState, no_outs}
-use Rattle.mr_rows.specs.Sound.{IsSound}
-use Rattle.mr_rows.specs.State.{NodeState, stopped_as}
-use Rattle.mr_rows.specs.UpstreamRows as master
-use Rattle.mr_seen.specs.State.{Link, Slot, WorldState}
-use Rattle.mr_seen.specs.Carrying.{followed, put_node}
-use Rattle.mr_carrying.specs.AtNode.{is_spent}
-use Rattle.mr_carrying.specs.Memory.{TakesMemory}
+use Rattle.mr_follower.specs.State.{FollowState}
+use Rattle.mr_replication.specs.declared.upstream.UpstreamStep.{UpstreamStep}
+use Rattle.mr_replication.specs.declared.upstream.UpstreamStep.TheVariants as outcome
+use Rattle.mr_node_output.specs.Outs.{OutsState, no_outs}
+use Rattle.mr_node_spec.specs.Sound.{IsSound}
+use Rattle.mr_node_spec.specs.State.{NodeState, stopped_as}
+use Rattle.mr_node_spec.specs.UpstreamRows as master
+use Rattle.law_refinement.specs.State.{Link, Slot, WorldState}
+use Rattle.law_refinement.specs.Carrying.{followed, put_node}
+use Rattle.mr_world_parts.specs.AtNode.{is_spent}
+use Rattle.mr_world_parts.specs.Memory.{TakesMemory}
 use Rattle.mr_world.specs.declared.refusal.Refusal.{Refusal}
 use Rattle.mr_world.specs.declared.refusal.Refusal.TheVariants as refusal
 use Rattle.mr_world.specs.Linking.{FollowsBy, NoneFollows, FollowerRests}

@@ -1,14 +1,14 @@
 -- What an event of a World is among histories.
 use Rattle.std.specs.Prelude.{ℕ, List}
 use Rattle.mr_data.specs.declared.given.Given.{Given}
-use Rattle.mr_history.specs.History.{Book}
-use Rattle.mr_history.specs.Changing.{Still}
-use Rattle.mr_history.specs.Event as events
-use Rattle.mr_history.specs.Event.Side.{Dialler}
-use Rattle.mr_language.specs.Minired.{minired}
-use Rattle.mr_seen.specs.State.{WorldState}
-use Rattle.mr_seen.specs.Seeing.{seen}
-use Rattle.mr_seen.specs.Events.{Holds, IsEvent}
+use Rattle.law_protocol.specs.History.{Book}
+use Rattle.law_protocol.specs.Changing.{Still}
+use Rattle.law_protocol.specs.Event as events
+use Rattle.law_protocol.specs.Event.Side.{Dialler}
+use Rattle.law_minired.specs.Minired.{minired}
+use Rattle.law_refinement.specs.State.{WorldState}
+use Rattle.law_refinement.specs.Seeing.{seen}
+use Rattle.law_refinement.specs.Events.{Holds, IsEvent}
 use Rattle.mr_world.specs.Following.{Follows, HasLacked}
 
 -- A step of the node that follows by a link is one at the dialler's end.

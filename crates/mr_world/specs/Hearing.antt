@@ -1,12 +1,12 @@
 -- What it comes to that bytes come at the node that dialled a link. As in `Calls`.
 use Rattle.std.specs.Prelude.{◌≡◌, ◌≢◌, ◌≤◌, ◌+◌, ℕ, Result, Ok, Err, length, take, drop}
 use Rattle.mr_links.specs.declared.link_id.LinkId.{LinkId}
-use Rattle.mr_follow.specs.State.{FollowState}
-use Rattle.mr_rows.specs.State.{NodeState}
-use Rattle.mr_rows.specs.Sound.{IsSound}
-use Rattle.mr_rows.specs.LinkRows.{Feeds}
-use Rattle.mr_seen.specs.State.{Link, Slot, WorldState}
-use Rattle.mr_seen.specs.Carrying.{fed_caller}
+use Rattle.mr_follower.specs.State.{FollowState}
+use Rattle.mr_node_spec.specs.State.{NodeState}
+use Rattle.mr_node_spec.specs.Sound.{IsSound}
+use Rattle.mr_node_spec.specs.LinkRows.{Feeds}
+use Rattle.law_refinement.specs.State.{Link, Slot, WorldState}
+use Rattle.law_refinement.specs.Carrying.{fed_caller}
 use Rattle.mr_world.specs.Linking.{FollowsBy, IsDialler, NoneFollows, FollowerRests}
 use Rattle.mr_world.specs.declared.refusal.Refusal.{Refusal}
 use Rattle.mr_world.specs.declared.refusal.Refusal.TheVariants as refusal

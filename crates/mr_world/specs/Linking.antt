@@ -1,15 +1,15 @@
 -- What the events between links and nodes come to: bytes that come at a node, and ends that a node closes. As in `Calls`.
 use Rattle.std.specs.Prelude.{◌≡◌, ◌≢◌, ◌≤◌, ◌+◌, ℕ, Result, Ok, Err, length, take, drop, false, Some, slice_get}
 use Rattle.mr_links.specs.declared.link_id.LinkId.{LinkId}
-use Rattle.mr_follow.specs.State.{FollowState}
-use Rattle.mr_rows.specs.State.{NodeState, IsTooMuch}
-use Rattle.mr_rows.specs.Sound.{IsSound}
-use Rattle.mr_rows.specs.LinkRows.{Feeds, closed_at}
+use Rattle.mr_follower.specs.State.{FollowState}
+use Rattle.mr_node_spec.specs.State.{NodeState, IsTooMuch}
+use Rattle.mr_node_spec.specs.Sound.{IsSound}
+use Rattle.mr_node_spec.specs.LinkRows.{Feeds, closed_at}
 use Rattle.mr_node.specs.Calls.{FitsMore}
-use Rattle.mr_seen.specs.State.{a_node, Link, Slot, WorldState}
-use Rattle.mr_seen.specs.Events.{IsFollowed, IsServed}
-use Rattle.mr_seen.specs.Carrying.{fed_server, put_node}
-use Rattle.mr_carrying.specs.AtNode.{IsFollowing}
+use Rattle.law_refinement.specs.State.{a_node, Link, Slot, WorldState}
+use Rattle.law_refinement.specs.Events.{IsFollowed, IsServed}
+use Rattle.law_refinement.specs.Carrying.{fed_server, put_node}
+use Rattle.mr_world_parts.specs.AtNode.{IsFollowing}
 use Rattle.mr_world.specs.Calls.{IsDown, NoneServes, ServesAt}
 use Rattle.mr_world.specs.declared.refusal.Refusal.{Refusal}
 use Rattle.mr_world.specs.declared.refusal.Refusal.TheVariants as refusal

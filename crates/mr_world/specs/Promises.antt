@@ -1,10 +1,10 @@
 -- What is promised of all that happens to one World, over any runs of it.
 use Rattle.std.specs.Prelude.{◌≡◌, ℕ, List, [], ◌∷◌, ◌++◌, Result, Ok, Err, Some, true, length, take, drop, slice_get}
-use Rattle.mr_entries.specs.Dataset.{Dataset}
+use Rattle.mr_keyspace.specs.Dataset.{Dataset}
 use Rattle.mr_groups.specs.Folding.{MakesByGroups}
-use Rattle.mr_seen.specs.State.{Slot, WorldState}
-use Rattle.mr_filing.specs.Worlds.{GoOn, GrownSince, HasGrown}
-use Rattle.mr_seen.specs.Worlds.{no_world}
+use Rattle.law_refinement.specs.State.{Slot, WorldState}
+use Rattle.law_files.specs.Worlds.{GoOn, GrownSince, HasGrown}
+use Rattle.law_refinement.specs.Worlds.{no_world}
 use Rattle.mr_headline.specs.Showing.{Shows, Gives, HistoriesGoOn}
 use Rattle.mr_headline.specs.Runs.{CaughtUp, last_of}
 use Rattle.mr_headline.specs.Headline.{IsLevel}

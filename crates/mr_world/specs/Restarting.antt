@@ -1,8 +1,8 @@
 -- What a restart comes to: a node that begins anew with what a file holds. As in `Calls`.
 use Rattle.std.specs.Prelude.{◌≡◌, ℕ, List, not, true, false, None, Some, Result, Ok, Err, slice_get}
-use Rattle.mr_seen.specs.State.{Slot, WorldState}
-use Rattle.mr_seen.specs.Carrying.{restarted_with}
-use Rattle.mr_carrying.specs.AtNode.{is_spent, IsLoaded}
+use Rattle.law_refinement.specs.State.{Slot, WorldState}
+use Rattle.law_refinement.specs.Carrying.{restarted_with}
+use Rattle.mr_world_parts.specs.AtNode.{is_spent, IsLoaded}
 use Rattle.mr_world.specs.declared.refusal.Refusal.{Refusal}
 use Rattle.mr_world.specs.declared.refusal.Refusal.TheVariants as refusal
 

@@ -1,12 +1,12 @@
 -- A World as events happen, one after another.
 use Rattle.std.specs.Prelude.{◌≡◌, ℕ, List, [], ◌∷◌, Bool, true, false, Option, None, Some, Result, Ok, Err, take, slice_get}
 use Rattle.mr_data.specs.declared.given.Given.{Given}
-use Rattle.mr_seen.specs.State.{Link, WorldState}
-use Rattle.mr_seen.specs.Worlds.{IsWorld}
+use Rattle.law_refinement.specs.State.{Link, WorldState}
+use Rattle.law_refinement.specs.Worlds.{IsWorld}
 use Rattle.mr_headline.specs.Runs.{last_of}
-use Rattle.mr_carrying.specs.declared.side.Side.{Side}
-use Rattle.mr_carrying.specs.declared.side.Side.TheVariants as side
-use Rattle.mr_carrying.specs.AtLink.{by_node}
+use Rattle.mr_world_parts.specs.declared.side.Side.{Side}
+use Rattle.mr_world_parts.specs.declared.side.Side.TheVariants as side
+use Rattle.mr_world_parts.specs.AtLink.{by_node}
 use Rattle.mr_world.specs.declared.refusal.Refusal.{Refusal}
 use Rattle.mr_world.specs.declared.event.Event.{Event}
 use Rattle.mr_world.specs.declared.event.Event.TheVariants as event

@@ -2,23 +2,23 @@
 -- and there is none, the node stops, and nothing else changes.
 use Rattle.std.specs.Prelude.{◌≡◌, ℕ, List, Bool, true, false, Result, Ok, Err}
 use Rattle.mr_data.specs.declared.given.Given.{Given}
-use Rattle.mr_ends.specs.State.{Transaction}
-use Rattle.mr_outs.specs.Outs.{OutsState}
-use Rattle.mr_rows.specs.Sound.{IsSound}
-use Rattle.mr_rows.specs.State.{Agrees, AgreesWithin, NodeState, stopped_as}
-use Rattle.mr_rows.specs.ClientRows.{ClientRow, Idles, MayLack}
-use Rattle.mr_rows.specs.Transactions.{WithinRow}
-use Rattle.mr_rows.specs.ReplicaRows.{ReplicaRow}
+use Rattle.mr_node_links.specs.State.{Transaction}
+use Rattle.mr_node_output.specs.Outs.{OutsState}
+use Rattle.mr_node_spec.specs.Sound.{IsSound}
+use Rattle.mr_node_spec.specs.State.{Agrees, AgreesWithin, NodeState, stopped_as}
+use Rattle.mr_node_spec.specs.ClientRows.{ClientRow, Idles, MayLack}
+use Rattle.mr_node_spec.specs.Transactions.{WithinRow}
+use Rattle.mr_node_spec.specs.ReplicaRows.{ReplicaRow}
 use Rattle.mr_node.specs.Noting.{BeginsWithWords}
 use Rattle.mr_node.specs.Steps.{StopsAt}
 use Rattle.mr_node.specs.Within.{StopsAtOpen}
-use Rattle.mr_seen.specs.Way.{unread}
-use Rattle.mr_seen.specs.State.{Link, Slot, WorldState}
-use Rattle.mr_seen.specs.Carrying.{put_node, stepped}
-use Rattle.mr_seen.specs.Events.{IsServed}
-use Rattle.mr_carrying.specs.AtNode.{is_spent}
-use Rattle.mr_carrying.specs.Answering.{Carries}
-use Rattle.mr_carrying.specs.Memory.{TakesMemory}
+use Rattle.law_refinement.specs.Way.{unread}
+use Rattle.law_refinement.specs.State.{Link, Slot, WorldState}
+use Rattle.law_refinement.specs.Carrying.{put_node, stepped}
+use Rattle.law_refinement.specs.Events.{IsServed}
+use Rattle.mr_world_parts.specs.AtNode.{is_spent}
+use Rattle.mr_world_parts.specs.Answering.{Carries}
+use Rattle.mr_world_parts.specs.Memory.{TakesMemory}
 use Rattle.mr_world.specs.declared.refusal.Refusal.{Refusal}
 use Rattle.mr_world.specs.declared.refusal.Refusal.TheVariants as refusal
 use Rattle.mr_world.specs.Calls.{IsDown, NoneServes, ServesAt}

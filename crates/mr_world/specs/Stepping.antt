@@ -1,14 +1,14 @@
 -- What the events come to in which a node gives something out. A refusal leaves the World as it is; where what a node gave out takes memory, and there is
 -- none, the node stops, and nothing else changes.
 use Rattle.std.specs.Prelude.{◌≡◌, ℕ, ℤ, None, Result, Ok, Err, slice_get}
-use Rattle.mr_outs.specs.Outs.{OutsState}
-use Rattle.mr_rows.specs.Sound.{IsSound}
-use Rattle.mr_rows.specs.State.{NodeState, stopped_as}
-use Rattle.mr_rows.specs.TimeRows.{TickRow}
-use Rattle.mr_seen.specs.State.{Slot, WorldState}
-use Rattle.mr_seen.specs.Carrying.{put_node, ticked}
-use Rattle.mr_seen.specs.Events.{IsRunning}
-use Rattle.mr_carrying.specs.Memory.{TakesMemory}
+use Rattle.mr_node_output.specs.Outs.{OutsState}
+use Rattle.mr_node_spec.specs.Sound.{IsSound}
+use Rattle.mr_node_spec.specs.State.{NodeState, stopped_as}
+use Rattle.mr_node_spec.specs.TimeRows.{TickRow}
+use Rattle.law_refinement.specs.State.{Slot, WorldState}
+use Rattle.law_refinement.specs.Carrying.{put_node, ticked}
+use Rattle.law_refinement.specs.Events.{IsRunning}
+use Rattle.mr_world_parts.specs.Memory.{TakesMemory}
 use Rattle.mr_world.specs.declared.refusal.Refusal.{Refusal}
 use Rattle.mr_world.specs.declared.refusal.Refusal.TheVariants as refusal
 use Rattle.mr_world.specs.Calls.{IsDown, Runs}

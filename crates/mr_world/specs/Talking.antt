@@ -4,12 +4,12 @@ use Rattle.std.specs.Prelude.{◌≡◌, ◌-◌, ◌==◌, ℕ, List, [], ◌�
 use Rattle.mr_data.specs.declared.given.Given.{Given}
 use Rattle.mr_resp.specs.Request.{IsText}
 use Rattle.mr_resp.specs.Usual.{usual}
-use Rattle.mr_ends.specs.State.{EndState, serves, unread_in}
-use Rattle.mr_rows.specs.State.{end_of}
-use Rattle.mr_seen.specs.Way.{unread}
-use Rattle.mr_seen.specs.State.{Link, WorldState}
-use Rattle.mr_seen.specs.Worlds.{IsWorld}
-use Rattle.mr_carrying.specs.declared.side.Side.TheVariants as side
+use Rattle.mr_node_links.specs.State.{EndState, serves, unread_in}
+use Rattle.mr_node_spec.specs.State.{end_of}
+use Rattle.law_refinement.specs.Way.{unread}
+use Rattle.law_refinement.specs.State.{Link, WorldState}
+use Rattle.law_refinement.specs.Worlds.{IsWorld}
+use Rattle.mr_world_parts.specs.declared.side.Side.TheVariants as side
 use Rattle.mr_world.specs.declared.event.Event.{Event}
 use Rattle.mr_world.specs.declared.event.Event.TheVariants as event
 use Rattle.mr_world.specs.Serving.{HasServed, Serves}

@@ -1,11 +1,11 @@
 // What a World shows.
 ghost use Rattle.std.specs.Prelude.{◌≡◌, length, slice_get};
 ghost use Rattle.std.specs.Option.{option_copied, option_map};
-ghost use Rattle.mr_carrying.specs.Lending.{file_in, node_in, took_at};
+ghost use Rattle.mr_world_parts.specs.Lending.{file_in, node_in, took_at};
 
 use crate::world::World;
-use mr_carrying::Side;
 use mr_node::Node;
+use mr_world_parts::Side;
 
 impl World {
     /// How many nodes there are. They are numbered from 0, in the order in which they started.
@@ -34,7 +34,8 @@ impl World {
 
     /// The bytes of a node's file, if there is a node of this number.
     pub fn file(&self, n: usize) -> Option<&[u8]>
-        ensures { option_map (λ bytes. bytes.now) result ≡ option_map file_in (slice_get self.now.slots n) }
+        ensures { option_map (λ bytes. bytes.now) result ≡
+            option_map file_in (slice_get self.now.slots n) }
     {
         match self.parts.slots.get(n) {
             Some(slot) => Some(slot.file()),
@@ -44,7 +45,8 @@ impl World {
 
     /// All bytes that this end of a link took, if there is a link of this number. An end that is closed took what it took.
     pub fn took(&self, link: usize, side: Side) -> Option<&[u8]>
-        ensures { option_map (λ bytes. bytes.now) result ≡ option_map (took_at side) (slice_get self.now.links link) }
+        ensures { option_map (λ bytes. bytes.now) result ≡
+            option_map (took_at side) (slice_get self.now.links link) }
     {
         match self.parts.links.get(link) {
             Some(link) => Some(link.took(side)),

@@ -13,6 +13,6 @@ mod world;
 
 pub use connecting_laws::dials_are_events;
 pub use event::Event;
-pub use mr_carrying::Side;
+pub use mr_world_parts::Side;
 pub use refusal::Refusal;
 pub use world::World;

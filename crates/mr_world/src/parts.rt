@@ -1,6 +1,6 @@
 // Nodes, links and the book, with nothing that holds of them.
 ghost use Rattle.std.specs.Prelude.{◌≡◌, slice_get};
-ghost use Rattle.mr_seen.specs.Worlds.{IsWorld, no_world};
+ghost use Rattle.law_refinement.specs.Worlds.{IsWorld, no_world};
 ghost use Rattle.mr_world.specs.Calls.{BreakCall, ClientCall, CommandCall, LeaveCall, StartCall, TakeCall};
 ghost use Rattle.mr_world.specs.Running.{is_between_nodes};
 
@@ -12,9 +12,9 @@ mod restarting;
 mod serving;
 
 use crate::refusal::Refusal;
-use mr_carrying::{BookEntry, Link, Slot, is_spent};
 use mr_node::{Config, NodeFault};
 use mr_repl::ReplId;
+use mr_world_parts::{BookEntry, Link, Slot, is_spent};
 use std::alloc::Global;
 use std::hash::RandomState;
 use std::marker::Model;
@@ -28,8 +28,8 @@ pub(crate) struct Parts {
 }
 
 impl Model for Parts {
-    ghost use Rattle.mr_seen.specs.State.{WorldState};
-    ghost use Rattle.mr_carrying.specs.Codes.{world_code};
+    ghost use Rattle.law_refinement.specs.State.{WorldState};
+    ghost use Rattle.mr_world_parts.specs.Codes.{world_code};
 
     ghost Value = { WorldState };
 

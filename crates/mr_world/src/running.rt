@@ -1,13 +1,13 @@
 // Events, one after another.
-ghost use Rattle.mr_seen.specs.Worlds.{IsWorld};
+ghost use Rattle.law_refinement.specs.Worlds.{IsWorld};
 ghost use Rattle.mr_world.specs.Running.{BreakAt, DeliverAt, EventCall, RunCall, StepAt};
 
 use crate::event::Event;
 use crate::refusal::Refusal;
 use crate::world::World;
-use mr_carrying::Side;
 use mr_data::Given;
 use mr_repl::ReplId;
+use mr_world_parts::Side;
 
 impl World {
     /// Events happen, one after another, until one is refused: its number, from 0, and why. Those before it stand, and it changes nothing.

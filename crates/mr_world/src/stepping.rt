@@ -4,9 +4,9 @@ ghost use Rattle.mr_world.specs.Stepping.{TickCall};
 
 use crate::parts::Parts;
 use crate::refusal::Refusal;
-use mr_carrying::give_tick;
 use mr_data::Given;
 use mr_node::NodeFault;
+use mr_world_parts::give_tick;
 use std::alloc::Global;
 
 impl Parts {

@@ -1,6 +1,6 @@
 // A World.
 ghost use Rattle.std.specs.Prelude.{◌≡◌, slice_get};
-ghost use Rattle.mr_seen.specs.Worlds.{no_world, IsWorld};
+ghost use Rattle.law_refinement.specs.Worlds.{no_world, IsWorld};
 ghost use Rattle.mr_world.specs.Calls.{BreakCall, ClientCall, CommandCall, LeaveCall, StartCall, TakeCall};
 ghost use Rattle.mr_world.specs.Connecting.{DialCall};
 ghost use Rattle.mr_world.specs.Linking.{DeliverCall, DropCall};
@@ -29,9 +29,9 @@ pub struct World {
 }
 
 impl Model for World {
-    ghost use Rattle.mr_seen.specs.State.{WorldState};
-    ghost use Rattle.mr_seen.specs.Worlds.{IsWorld};
-    ghost use Rattle.mr_carrying.specs.Codes.{world_code};
+    ghost use Rattle.law_refinement.specs.State.{WorldState};
+    ghost use Rattle.law_refinement.specs.Worlds.{IsWorld};
+    ghost use Rattle.mr_world_parts.specs.Codes.{world_code};
 
     ghost Value = { WorldState };
 

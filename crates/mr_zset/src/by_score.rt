@@ -193,8 +193,10 @@ impl ByScore {
     /// The number of pairs that are less than a score with a member, which is the place where that pair stands or would stand.
     /// It is compared with at most as many pairs as the number of members has binary digits. It takes no memory.
     pub(crate) fn place(&self, score: i64, member: &[u8], steps: &mut Steps) -> usize
-        ensures count { result ≡ count_by (λ p. pair_lt p (member.now, score)) (finite.entries self.now) }
-        ensures steps { (digits : ℕ) → finite.len self.now < 2 ^ digits → steps.new.count ≤ steps.old.count + digits }
+        ensures count { result ≡
+            count_by (λ p. pair_lt p (member.now, score)) (finite.entries self.now) }
+        ensures steps { (digits : ℕ) → finite.len self.now < 2 ^ digits →
+            steps.new.count ≤ steps.old.count + digits }
     {
         place_of(&self.pairs, Pair { score, member }, steps)
     }
@@ -210,7 +212,8 @@ impl ByScore {
     pub(crate) fn between(&self, first: usize, past: usize) -> Result<Vec<Pair<'_>>, AllocError>
         requires ordered { first ≤ past }
         requires within { past ≤ finite.len self.now }
-        ensures { IfOk result (λ pairs. map shown pairs.items ≡ slice_range (pairs_of self.now) first past) }
+        ensures { IfOk result (λ pairs.
+            map shown pairs.items ≡ slice_range (pairs_of self.now) first past) }
     {
         pairs_between(self.alloc, &self.pairs, first, past)
     }
@@ -220,7 +223,8 @@ impl ByScore {
     pub(crate) fn places(&self, from: Bound, to: Bound) -> (usize, usize)
         ensures ordered { result.0 ≤ result.1 }
         ensures within { result.1 ≤ finite.len self.now }
-        ensures range { range_of from to self.now ≡ slice_range (pairs_of self.now) result.0 result.1 }
+        ensures range { range_of from to self.now ≡
+            slice_range (pairs_of self.now) result.0 result.1 }
     {
         places_of(&self.pairs, from, to)
     }
@@ -245,7 +249,8 @@ impl ByScore {
 
     /// Takes out the last pair in order, and answers it. Where memory runs out, all is as it was.
     pub(crate) fn pop_max(&mut self) -> Result<Option<(Bytes, i64)>, AllocError>
-        ensures popped { IfOk result (λ popped. popped ≡ slice_get (pairs_of self.old) (length (pairs_of self.old) - 1)) }
+        ensures popped { IfOk result (λ popped.
+            popped ≡ slice_get (pairs_of self.old) (length (pairs_of self.old) - 1)) }
         ensures ok { IfOk result (λ popped. self.new ≡ without popped self.old) }
         ensures err { OnErr result (self.new ≡ self.old) }
     {

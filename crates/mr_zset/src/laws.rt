@@ -18,8 +18,13 @@ pub fn all_pairs_in_order(_set: &ZSet)
 /// A text is read as a bound on a score exactly where it spells that score, behind a `(` where what lies on the bound is left out. It is read as an
 /// infinite bound exactly where, in lower case, it is a name of that infinity; a `(` before it says nothing.
 pub fn bound_texts()
-    ensures included { (text : List ℕ) (n : ℤ) → (bound_of text ≡ Some (Included n)) ↔ IsScoreText text n }
-    ensures excluded { (text : List ℕ) (n : ℤ) → (bound_of text ≡ Some (Excluded n)) ↔ ((rest : List ℕ) × (text ≡ 40 ∷ rest) × IsScoreText rest n) }
-    ensures positive { (text : List ℕ) → (bound_of text ≡ Some PositiveInfinity) ↔ IsNamed positive_names text }
-    ensures negative { (text : List ℕ) → (bound_of text ≡ Some NegativeInfinity) ↔ IsNamed negative_names text }
+    ensures included { (text : List ℕ) (n : ℤ) →
+        (bound_of text ≡ Some (Included n)) ↔ IsScoreText text n }
+    ensures excluded { (text : List ℕ) (n : ℤ) →
+        (bound_of text ≡ Some (Excluded n)) ↔
+        ((rest : List ℕ) × (text ≡ 40 ∷ rest) × IsScoreText rest n) }
+    ensures positive { (text : List ℕ) →
+        (bound_of text ≡ Some PositiveInfinity) ↔ IsNamed positive_names text }
+    ensures negative { (text : List ℕ) →
+        (bound_of text ≡ Some NegativeInfinity) ↔ IsNamed negative_names text }
 {}

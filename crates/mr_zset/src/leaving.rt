@@ -52,7 +52,9 @@ fn forget<'m>(
 
 /// Sets a pair aside, to go with others. Where memory is lacking it goes at once.
 fn set_aside<'m>(pairs: &mut Ordered<Entry>, pair: Pair<'m>, gone: &mut Vec<Pair<'m>>)
-    ensures { without_pairs (map shown gone.new.items) (map stored pairs.new) ≡ filter (is_other (shown pair.entry)) (without_pairs (map shown gone.old.items) (map stored pairs.old)) }
+    ensures { without_pairs (map shown gone.new.items) (map stored pairs.new) ≡
+        filter (is_other (shown pair.entry))
+        (without_pairs (map shown gone.old.items) (map stored pairs.old)) }
 {
     if gone.push(pair).is_err() {
         take_out(pairs, pair);
@@ -99,7 +101,8 @@ fn range_of(pairs: &Ordered<Entry>, gone: &[Pair<'_>]) -> Option<(usize, usize)>
 /// The place behind the pairs that are not greater than this one.
 fn past_of(pairs: &Ordered<Entry>, pair: Pair<'_>) -> usize
     ensures within { result ≤ length pairs.now }
-    ensures back { AllWithin (λ y. pair_cmp (shown pair.entry) (stored y) ≡ Less) pairs.now result (length pairs.now) }
+    ensures back { AllWithin (λ y.
+        pair_cmp (shown pair.entry) (stored y) ≡ Less) pairs.now result (length pairs.now) }
 {
     match pairs.locate(pair) {
         Ok(at) => {

@@ -37,7 +37,8 @@ pub(crate) fn add_name(
     member: &[u8],
     score: i64,
 ) -> Result<(), AllocError>
-    ensures ok { OnOk result (names.new ≡ option_map (λ m. finite.insert m member.now score) names.old) }
+    ensures ok { OnOk result (names.new ≡
+        option_map (λ m. finite.insert m member.now score) names.old) }
     ensures err { OnErr result (names.new ≡ names.old) }
 {
     if let Some(names) = names {

@@ -169,7 +169,8 @@ impl Ranked {
 
     /// Removes the last pair in order, and answers it. Where memory runs out, the set is as it was.
     pub(crate) fn pop_max(&mut self) -> Result<Option<(Bytes, i64)>, AllocError>
-        ensures popped { IfOk result (λ popped. popped ≡ slice_get (pairs_of self.old) (length (pairs_of self.old) - 1)) }
+        ensures popped { IfOk result (λ popped.
+            popped ≡ slice_get (pairs_of self.old) (length (pairs_of self.old) - 1)) }
         ensures ok { IfOk result (λ popped. self.new ≡ without popped self.old) }
         ensures err { OnErr result (self.new ≡ self.old) }
     {

@@ -52,7 +52,8 @@ pub(crate) fn names_of(alloc: Global, pairs: &Ordered<Entry>) -> Result<ByName<i
 
 /// The pair whose member comes first in byte order behind another member, or of all where there is no other.
 pub(crate) fn first_behind<'a>(pairs: &'a Ordered<Entry>, last: Option<&[u8]>) -> Option<&'a Entry>
-    ensures { option_map stored (option_copied result) ≡ slice_get (behind (option_copied last.entry) (entries (scores_of pairs.now))) 0 }
+    ensures { option_map stored (option_copied result) ≡
+        slice_get (behind (option_copied last.entry) (entries (scores_of pairs.now))) 0 }
 {
     let mut first = None;
     let mut left = pairs.len();
@@ -65,7 +66,9 @@ pub(crate) fn first_behind<'a>(pairs: &'a Ordered<Entry>, last: Option<&[u8]>) -
 
 /// Of a pair and the first one so far the one that comes first behind a member.
 fn nearer<'a>(entry: &'a Entry, first: Option<&'a Entry>, last: Option<&[u8]>) -> Option<&'a Entry>
-    ensures { option_map stored (option_copied result) ≡ nearer (option_copied last.entry) (stored entry.now) (option_map stored (option_copied first.entry)) }
+    ensures { option_map stored (option_copied result) ≡
+        nearer (option_copied last.entry) (stored entry.now)
+        (option_map stored (option_copied first.entry)) }
 {
     if let Some(last) = last {
         if !last.compare(&entry.member).is_lt() {

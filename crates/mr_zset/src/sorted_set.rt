@@ -129,7 +129,8 @@ impl ZSet {
     pub fn rank(&self, member: &[u8]) -> Option<usize>
         ensures count { result ≡ rank_of self.now member.now }
         ensures within { IfSome result (λ rank. rank < finite.len self.now) }
-        ensures place { IfSome result (λ rank. IfSome (slice_get (pairs_of self.now) rank) (λ pair. pair.0 ≡ member.now)) }
+        ensures place { IfSome result (λ rank.
+            IfSome (slice_get (pairs_of self.now) rank) (λ pair. pair.0 ≡ member.now)) }
     {
         let score = self.score(member)?;
         let mut steps = Steps { count: 0 };
@@ -139,8 +140,10 @@ impl ZSet {
     /// The number of pairs that are less than a score with a member, which is the place where that pair stands or would stand.
     /// It is compared with at most as many pairs as the number of members has binary digits. It takes no memory.
     pub fn place(&self, score: i64, member: &[u8], steps: &mut Steps) -> usize
-        ensures count { result ≡ count_by (λ p. pair_lt p (member.now, score)) (finite.entries self.now) }
-        ensures steps { (digits : ℕ) → finite.len self.now < 2 ^ digits → steps.new.count ≤ steps.old.count + digits }
+        ensures count { result ≡
+            count_by (λ p. pair_lt p (member.now, score)) (finite.entries self.now) }
+        ensures steps { (digits : ℕ) → finite.len self.now < 2 ^ digits →
+            steps.new.count ≤ steps.old.count + digits }
     {
         match &self.ranked {
             Some(ranked) => ranked.scores().place(score, member, steps),
@@ -162,7 +165,8 @@ impl ZSet {
     pub fn by_rank(&self, first: usize, last: usize) -> Result<Vec<Pair<'_>>, AllocError>
         requires ordered { first ≤ last }
         requires within { last < finite.len self.now }
-        ensures { IfOk result (λ pairs. map shown pairs.items ≡ slice_range (pairs_of self.now) first (last + 1)) }
+        ensures { IfOk result (λ pairs.
+            map shown pairs.items ≡ slice_range (pairs_of self.now) first (last + 1)) }
     {
         prove!(last < self.len());
         self.between(first, last + 1)
@@ -172,7 +176,8 @@ impl ZSet {
     pub fn between(&self, first: usize, past: usize) -> Result<Vec<Pair<'_>>, AllocError>
         requires ordered { first ≤ past }
         requires within { past ≤ finite.len self.now }
-        ensures { IfOk result (λ pairs. map shown pairs.items ≡ slice_range (pairs_of self.now) first past) }
+        ensures { IfOk result (λ pairs.
+            map shown pairs.items ≡ slice_range (pairs_of self.now) first past) }
     {
         match &self.ranked {
             Some(ranked) => ranked.scores().between(first, past),
@@ -193,7 +198,8 @@ impl ZSet {
     pub fn places(&self, from: Bound, to: Bound) -> (usize, usize)
         ensures ordered { result.0 ≤ result.1 }
         ensures within { result.1 ≤ finite.len self.now }
-        ensures range { range_of from to self.now ≡ slice_range (pairs_of self.now) result.0 result.1 }
+        ensures range { range_of from to self.now ≡
+            slice_range (pairs_of self.now) result.0 result.1 }
     {
         match &self.ranked {
             Some(ranked) => ranked.scores().places(from, to),
@@ -235,7 +241,8 @@ impl ZSet {
 
     /// Removes the last pair in order, and answers it. Where memory runs out, the set is as it was.
     pub fn pop_max(&mut self) -> Result<Option<(Bytes, i64)>, AllocError>
-        ensures popped { IfOk result (λ popped. popped ≡ slice_get (pairs_of self.old) (length (pairs_of self.old) - 1)) }
+        ensures popped { IfOk result (λ popped.
+            popped ≡ slice_get (pairs_of self.old) (length (pairs_of self.old) - 1)) }
         ensures ok { IfOk result (λ popped. self.new ≡ without popped self.old) }
         ensures err { OnErr result (self.new ≡ self.old) }
     {

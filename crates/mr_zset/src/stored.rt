@@ -17,7 +17,8 @@ use std::alloc::{AllocError, Global};
 
 /// Puts a pair where it stands in order, unless it is there. Where memory runs out, all is as it was.
 pub(crate) fn put_in(pairs: &mut Ordered<Entry>, entry: Entry) -> Result<(), AllocError>
-    ensures ok { OnOk result (map stored pairs.new ≡ insert_key pair_cmp (map stored pairs.old) (stored entry)) }
+    ensures ok { OnOk result (map stored pairs.new ≡
+        insert_key pair_cmp (map stored pairs.old) (stored entry)) }
     ensures err { OnErr result (pairs.new ≡ pairs.old) }
 {
     pairs.insert(entry)?;
@@ -26,8 +27,10 @@ pub(crate) fn put_in(pairs: &mut Ordered<Entry>, entry: Entry) -> Result<(), All
 
 /// Takes a pair out, if it is there, and answers it.
 pub(crate) fn take_out(pairs: &mut Ordered<Entry>, pair: Pair<'_>) -> Option<Entry>
-    ensures answer { MatchOption result (pairs.new ≡ pairs.old) (λ entry. stored entry ≡ shown pair.entry) }
-    ensures rest { map stored pairs.new ≡ filter (is_other (shown pair.entry)) (map stored pairs.old) }
+    ensures answer { MatchOption result (pairs.new ≡ pairs.old) (λ entry.
+        stored entry ≡ shown pair.entry) }
+    ensures rest { map stored pairs.new ≡
+        filter (is_other (shown pair.entry)) (map stored pairs.old) }
 {
     taken(pairs, pair)
 }
@@ -47,8 +50,10 @@ fn taken(pairs: &mut Ordered<Entry>, pair: Pair<'_>) -> Option<Entry>
 
 /// How many stored pairs are less than this one. It is compared with at most as many as their number has binary digits.
 pub(crate) fn place_of(pairs: &Ordered<Entry>, pair: Pair<'_>, steps: &mut Steps) -> usize
-    ensures count { result ≡ count_by (λ p. pair_lt p (shown pair.entry)) (map stored pairs.now) }
-    ensures steps { (digits : ℕ) → length pairs.now < 2 ^ digits → steps.new.count ≤ steps.old.count + digits }
+    ensures count { result ≡
+        count_by (λ p. pair_lt p (shown pair.entry)) (map stored pairs.now) }
+    ensures steps { (digits : ℕ) → length pairs.now < 2 ^ digits →
+        steps.new.count ≤ steps.old.count + digits }
 {
     match ShortKey::of(pair.member) {
         Some(short) => {
@@ -66,7 +71,8 @@ pub(crate) fn place_of(pairs: &Ordered<Entry>, pair: Pair<'_>, steps: &mut Steps
 pub(crate) fn places_of(pairs: &Ordered<Entry>, from: Bound, to: Bound) -> (usize, usize)
     ensures ordered { result.0 ≤ result.1 }
     ensures within { result.1 ≤ length pairs.now }
-    ensures range { filter (λ p. is_within from to p.1) (map stored pairs.now) ≡ slice_range (map stored pairs.now) result.0 result.1 }
+    ensures range { filter (λ p. is_within from to p.1) (map stored pairs.now) ≡
+        slice_range (map stored pairs.now) result.0 result.1 }
 {
     let first = pairs.count_below(Start(from));
     let past = pairs.count_below(End(to));
@@ -82,7 +88,8 @@ pub(crate) fn pairs_between(
 ) -> Result<Vec<Pair<'_>>, AllocError>
     requires ordered { from ≤ to }
     requires within { to ≤ length pairs.now }
-    ensures { IfOk result (λ part. map shown part.items ≡ slice_range (map stored pairs.now) from to) }
+    ensures { IfOk result (λ part.
+        map shown part.items ≡ slice_range (map stored pairs.now) from to) }
 {
     let mut part = Vec::with_capacity(alloc, to - from)?;
     for entry in pairs.range(from, to) {
@@ -124,14 +131,16 @@ pub(crate) fn copied(
 
 /// Drops the first pair, if there is one.
 pub(crate) fn drop_first(pairs: &mut Ordered<Entry>)
-    ensures { MatchOption (slice_get pairs.old 0) ((pairs.old ≡ []) × (pairs.new ≡ [])) (λ pair. pairs.old ≡ pair ∷ pairs.new) }
+    ensures { MatchOption (slice_get pairs.old 0) ((pairs.old ≡ []) ×
+        (pairs.new ≡ [])) (λ pair. pairs.old ≡ pair ∷ pairs.new) }
 {
     pairs.pop_first();
 }
 
 /// Drops the last pair, if there is one.
 pub(crate) fn drop_last(pairs: &mut Ordered<Entry>)
-    ensures { MatchOption (slice_get pairs.old (length pairs.old - 1)) ((pairs.old ≡ []) × (pairs.new ≡ [])) (λ pair. pairs.old ≡ pairs.new ++ pair ∷ []) }
+    ensures { MatchOption (slice_get pairs.old (length pairs.old - 1)) ((pairs.old ≡ []) ×
+        (pairs.new ≡ [])) (λ pair. pairs.old ≡ pairs.new ++ pair ∷ []) }
 {
     pairs.pop_last();
 }

@@ -59,8 +59,10 @@ impl AddOption {
 
 /// The words up to the first that is no option, and the words from there on.
 pub fn cut_options<'a, 't>(words: Arguments<'a, 't>) -> (Arguments<'a, 't>, Arguments<'a, 't>)
-    ensures options { map cow_slice_items result.0.now ≡ option_words (map cow_slice_items words.now) }
-    ensures pairs { map cow_slice_items result.1.now ≡ pair_words (map cow_slice_items words.now) }
+    ensures options { map cow_slice_items result.0.now ≡
+        option_words (map cow_slice_items words.now) }
+    ensures pairs { map cow_slice_items result.1.now ≡
+        pair_words (map cow_slice_items words.now) }
 {
     words.split_at(option_count(words))
 }

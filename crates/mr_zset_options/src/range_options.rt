@@ -120,9 +120,13 @@ impl<'a> RangeOptions<'a> {
         word: &CowSlice<'_, u8>,
         after: Arguments<'a, 't>,
     ) -> Result<(RangeOptions<'a>, Arguments<'a, 't>), AskFault>
-        ensures ok { IfOk result (λ step. range_options step.0 (map cow_slice_items step.1.now) ≡ range_options self.entry (cow_slice_items word.now ∷ map cow_slice_items after.now)) }
+        ensures ok { IfOk result (λ step.
+            range_options step.0 (map cow_slice_items step.1.now) ≡
+            range_options self.entry (cow_slice_items word.now ∷ map cow_slice_items after.now)) }
         ensures shorter { IfOk result (λ step. length step.1.now ≤ length after.now) }
-        ensures err { IfErr result (λ fault. range_options self.entry (cow_slice_items word.now ∷ map cow_slice_items after.now) ≡ Err fault) }
+        ensures err { IfErr result (λ fault.
+            range_options self.entry (cow_slice_items word.now ∷
+            map cow_slice_items after.now) ≡ Err fault) }
     {
         if !is_limit(word) {
             let option = RangeOption::of(word.as_slice()).ok_or(AskFault::Syntax)?;
@@ -137,9 +141,12 @@ impl<'a> RangeOptions<'a> {
         self,
         words: Arguments<'a, 't>,
     ) -> Result<(RangeOptions<'a>, Arguments<'a, 't>), AskFault>
-        ensures ok { IfOk result (λ step. range_options step.0 (map cow_slice_items step.1.now) ≡ limit_then self.entry (map cow_slice_items words.now)) }
+        ensures ok { IfOk result (λ step.
+            range_options step.0 (map cow_slice_items step.1.now) ≡
+            limit_then self.entry (map cow_slice_items words.now)) }
         ensures shorter { IfOk result (λ step. length step.1.now ≤ length words.now) }
-        ensures err { IfErr result (λ fault. limit_then self.entry (map cow_slice_items words.now) ≡ Err fault) }
+        ensures err { IfErr result (λ fault.
+            limit_then self.entry (map cow_slice_items words.now) ≡ Err fault) }
     {
         match words {
             [offset, count, behind @ ..] => {

@@ -1,7 +1,7 @@
 //! What a call answered, written.
 use crate::fault::RehearsalFault;
 use mr_links::LinkId;
-use mr_outs::{Address, Out, Outs};
+use mr_node_output::{Address, Out, Outs};
 use mr_repl::ReplId;
 use std::alloc::Global;
 use std::fmt::Display;

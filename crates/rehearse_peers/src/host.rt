@@ -5,7 +5,7 @@ use crate::telling::{tell, tell_bytes, tell_count, tell_outs, tell_refusal};
 use mr_data::{Dataset, Given};
 use mr_links::LinkId;
 use mr_node::{Config, Node, Role, Step};
-use mr_outs::Outs;
+use mr_node_output::Outs;
 use mr_repl::ReplId;
 use std::alloc::Global;
 use std::hash::RandomState;

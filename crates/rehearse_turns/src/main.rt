@@ -21,7 +21,7 @@
 //! | Line | Answer |
 //! |---|---|
 //! | `start ROLE ID PORT BACKLOG`, with `master` or `replica` | `started`; or `refused` outside the backlog's limits, or `fault: file failed` |
-//! | `turn` | `turned STEPS DONE USED DEAF`, what the turn counted, or `halted ..` where a client said SHUTDOWN, or `fault: ` and why; or `over` behind that |
+//! | `turn` | `turned STEPS DONE USED DEAF`, the seven counts of what came of following a master, and `LACKED LINKS ASKED`, what the turn counted: how often memory ran out, how many links were closed for it, and what was asked for as the last was, as `accept`, `dial`, `bytes:COUNT`, `request:COUNT`, `copy:COUNT` or `stream:COUNT`, or `-`; or `halted ..` where a client said SHUTDOWN, or `fault: ` and why; or `over` behind that |
 //! | `serve TURNS` | `served`, `fault: ` and why, or `over` |
 //! | `shows` | `shows ID OFFSET`, or `nothing` |
 //! | `role` | `master`, `connect`, `sync` or `connected` |

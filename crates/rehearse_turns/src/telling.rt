@@ -2,7 +2,7 @@
 use crate::fault::RehearsalFault;
 use crate::heard::HeardLink;
 use crate::heard_wire::HeardWire;
-use mr_loop::{Followed, Turn};
+use mr_loop::{Asked, Followed, Lacked, Turn};
 use std::alloc::Global;
 use std::fmt::Display;
 
@@ -46,7 +46,8 @@ pub fn tell_turn(alloc: Global, told: Turn, out: &mut Vec<u8>) -> Result<(), Reh
     tell_shown(alloc, told.done, out)?;
     tell_shown(alloc, told.used, out)?;
     tell_shown(alloc, told.deaf, out)?;
-    tell_followed(alloc, told.followed, out)
+    tell_followed(alloc, told.followed, out)?;
+    tell_lacked(alloc, told.lacked, out)
 }
 
 /// What it counted of following a master.
@@ -62,6 +63,21 @@ fn tell_followed(
     tell_shown(alloc, followed.continued, out)?;
     tell_shown(alloc, followed.refused, out)?;
     tell_shown(alloc, followed.spoiled, out)
+}
+
+/// How often memory ran out, how many links were closed for it, and what was asked for as the last was.
+fn tell_lacked(alloc: Global, lacked: Lacked, out: &mut Vec<u8>) -> Result<(), RehearsalFault> {
+    tell_shown(alloc, lacked.times, out)?;
+    tell_shown(alloc, lacked.links, out)?;
+    match lacked.last {
+        None => tell(out, " -"),
+        Some(Asked::Accept) => tell(out, " accept"),
+        Some(Asked::Dial) => tell(out, " dial"),
+        Some(Asked::Bytes(count)) => tell(out, format!(in alloc; " bytes:{count}")?.as_str()),
+        Some(Asked::Request(count)) => tell(out, format!(in alloc; " request:{count}")?.as_str()),
+        Some(Asked::Copy(count)) => tell(out, format!(in alloc; " copy:{count}")?.as_str()),
+        Some(Asked::Stream(count)) => tell(out, format!(in alloc; " stream:{count}")?.as_str()),
+    }
 }
 
 /// A link, behind a `;`: who opened it, whether it is open, how many bytes were read, what was written, and whom it was dialled to.

@@ -5,9 +5,9 @@ use crate::kind::Kind;
 use crate::lineage::{MOST, tell_lineage};
 use crate::step::{Step, bytes_of, count_of, id_of, link_of};
 use crate::telling::{tell, tell_bytes, tell_shown, tell_whether};
-use mr_course::{Course, UpstreamStep};
 use mr_data::Dataset;
 use mr_repl::{Lineage, MOST_BACKLOG};
+use mr_replication::{Course, UpstreamStep};
 use std::alloc::Global;
 use std::hash::RandomState;
 

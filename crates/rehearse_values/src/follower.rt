@@ -4,7 +4,7 @@ use crate::kind::Kind;
 use crate::step::{Step, bytes_of, count_of, id_of};
 use crate::telling::{tell, tell_bytes, tell_shown};
 use mr_data::Dataset;
-use mr_follow::{FollowFault, Follower, Heard, Phase};
+use mr_follower::{FollowFault, Follower, Heard, Phase};
 use mr_repl::{OFFSET_LIMIT, ReplId};
 use std::alloc::Global;
 use std::hash::RandomState;

@@ -47,14 +47,19 @@ impl<F: LogFile> Log<F> {
         mut file: F,
         mode: SyncMode,
     ) -> Result<(Self, Loaded), (LogFault, F)>
-        ensures loaded { IfOk result (λ opened. IfSome (F.told file) (λ xs. LoadsGroups xs opened.1.used opened.1.dataset)) }
-        ensures kept { IfOk result (λ opened. Keeps (F.told file) (F.told opened.0.file) opened.1.used) }
-        ensures aside { IfOk result (λ opened. SetsAside (F.told file) (F.aside file) (F.aside opened.0.file) opened.1.used) }
+        ensures loaded { IfOk result (λ opened.
+            IfSome (F.told file) (λ xs. LoadsGroups xs opened.1.used opened.1.dataset)) }
+        ensures kept { IfOk result (λ opened.
+            Keeps (F.told file) (F.told opened.0.file) opened.1.used) }
+        ensures aside { IfOk result (λ opened.
+            SetsAside (F.told file) (F.aside file) (F.aside opened.0.file) opened.1.used) }
         ensures mode { IfOk result (λ opened. opened.0.mode ≡ mode) }
         ensures whole { IfOk result (λ opened. opened.0.broken ≡ false) }
         ensures err { IfErr result (λ failed. F.told failed.1 ≡ F.told file) }
-        ensures spared { IfErr result (λ failed. SetsAsideOrNot (F.told file) (F.aside file) (F.aside failed.1)) }
-        ensures device { IfErr result (λ failed. failed.0 ≡ LogFault.Device → Rose (F.failures file) (F.failures failed.1)) }
+        ensures spared { IfErr result (λ failed.
+            SetsAsideOrNot (F.told file) (F.aside file) (F.aside failed.1)) }
+        ensures device { IfErr result (λ failed. failed.0 ≡ LogFault.Device →
+            Rose (F.failures file) (F.failures failed.1)) }
         ensures not_broken { IfErr result (λ failed. failed.0 ≢ LogFault.Broken) }
     {
         let made = match load_file(alloc, seed, &mut file) {
@@ -78,9 +83,11 @@ impl<F: LogFile> Log<F> {
 fn cut_rest<F: LogFile>(file: &mut F, torn: bool, used: u64) -> Result<(), Failed>
     requires { torn ≡ false → IfSome (F.told file.old) (λ xs. used ≡ length xs) }
     ensures kept { OnOk result (Keeps (F.told file.old) (F.told file.new) used) }
-    ensures aside { OnOk result (SetsAside (F.told file.old) (F.aside file.old) (F.aside file.new) used) }
+    ensures aside { OnOk result
+        (SetsAside (F.told file.old) (F.aside file.old) (F.aside file.new) used) }
     ensures failed { OnErr result (F.told file.new ≡ F.told file.old) }
-    ensures spared { OnErr result (SetsAsideOrNot (F.told file.old) (F.aside file.old) (F.aside file.new)) }
+    ensures spared { OnErr result
+        (SetsAsideOrNot (F.told file.old) (F.aside file.old) (F.aside file.new)) }
     ensures later { F.failures file.old ≤ F.failures file.new }
     ensures cause { OnErr result (Rose (F.failures file.old) (F.failures file.new)) }
 {
@@ -116,14 +123,17 @@ fn read_pieces<F: LogFile>(
     requires unread { replay.old.unread.items ≡ [] }
     requires reader { IsFresh replay.old.reader }
     requires room { 0 < length buffer.old }
-    ensures through { IfOk result (λ r. IfSome (F.told file.old) (λ xs. IsReadThrough xs end r.at replay.new.dataset replay.new.unread.items r.rest)) }
+    ensures through { IfOk result (λ r.
+        IfSome (F.told file.old) (λ xs.
+        IsReadThrough xs end r.at replay.new.dataset replay.new.unread.items r.rest)) }
     ensures counted { IfOk result (λ r. length replay.new.unread.items ≤ r.at) }
     ensures within { IfOk result (λ r. IsWithin r.at end) }
     ensures torn { IfOk result (λ r. r.rest ≡ Rest.Torn → 0 < length replay.new.unread.items) }
     ensures same { F.told file.new ≡ F.told file.old }
     ensures beside { F.aside file.new ≡ F.aside file.old }
     ensures later { F.failures file.old ≤ F.failures file.new }
-    ensures device { IsErrOf result LogFault.Device → Rose (F.failures file.old) (F.failures file.new) }
+    ensures device { IsErrOf result LogFault.Device →
+        Rose (F.failures file.old) (F.failures file.new) }
     ensures not_broken { IsErrOf result LogFault.Broken → ⊥ }
 {
     let mut at = 0;
@@ -154,14 +164,17 @@ fn read_through<F: LogFile>(
     requires dataset { replay.old.dataset ≡ empty }
     requires unread { replay.old.unread.items ≡ [] }
     requires reader { IsFresh replay.old.reader }
-    ensures through { IfOk result (λ r. IfSome (F.told file.old) (λ xs. IsReadThrough xs end r.at replay.new.dataset replay.new.unread.items r.rest)) }
+    ensures through { IfOk result (λ r.
+        IfSome (F.told file.old) (λ xs.
+        IsReadThrough xs end r.at replay.new.dataset replay.new.unread.items r.rest)) }
     ensures counted { IfOk result (λ r. length replay.new.unread.items ≤ r.at) }
     ensures within { IfOk result (λ r. IsWithin r.at end) }
     ensures torn { IfOk result (λ r. r.rest ≡ Rest.Torn → 0 < length replay.new.unread.items) }
     ensures same { F.told file.new ≡ F.told file.old }
     ensures beside { F.aside file.new ≡ F.aside file.old }
     ensures later { F.failures file.old ≤ F.failures file.new }
-    ensures device { IsErrOf result LogFault.Device → Rose (F.failures file.old) (F.failures file.new) }
+    ensures device { IsErrOf result LogFault.Device →
+        Rose (F.failures file.old) (F.failures file.new) }
     ensures not_broken { IsErrOf result LogFault.Broken → ⊥ }
 {
     let mut buffer = vec![in alloc; 0u8; PIECE]?;
@@ -199,7 +212,8 @@ fn read_pass<F: LogFile>(
     ensures same { F.told file.new ≡ F.told file.old }
     ensures beside { F.aside file.new ≡ F.aside file.old }
     ensures later { F.failures file.old ≤ F.failures file.new }
-    ensures device { IsErrOf result LogFault.Device → Rose (F.failures file.old) (F.failures file.new) }
+    ensures device { IsErrOf result LogFault.Device →
+        Rose (F.failures file.old) (F.failures file.new) }
     ensures not_broken { IsErrOf result LogFault.Broken → ⊥ }
 {
     let mut replay = GroupReplay::new(alloc, seed);
@@ -214,11 +228,14 @@ fn read_pass<F: LogFile>(
 
 /// Reads a file; and where a group could be done in part alone, once more up to that.
 fn load_file<F: LogFile>(alloc: Global, seed: RandomState, file: &mut F) -> Result<Made, LogFault>
-    ensures loaded { IfOk result (λ made. IfSome (F.told file.old) (λ xs. IsMade xs made.loaded.used made.loaded.dataset made.has_more)) }
+    ensures loaded { IfOk result (λ made.
+        IfSome (F.told file.old) (λ xs.
+        IsMade xs made.loaded.used made.loaded.dataset made.has_more)) }
     ensures same { F.told file.new ≡ F.told file.old }
     ensures beside { F.aside file.new ≡ F.aside file.old }
     ensures later { F.failures file.old ≤ F.failures file.new }
-    ensures device { IsErrOf result LogFault.Device → Rose (F.failures file.old) (F.failures file.new) }
+    ensures device { IsErrOf result LogFault.Device →
+        Rose (F.failures file.old) (F.failures file.new) }
     ensures not_broken { IsErrOf result LogFault.Broken → ⊥ }
 {
     let mut end = None;

@@ -1,13 +1,13 @@
 // Fields that go, in groups.
 ghost use Rattle.std.specs.Prelude.{◌≡◌, ◌≤◌, [], ◌∷◌, ◌++◌, length, map, if◌then◌else◌, OnOk};
 ghost use Rattle.mr_effect.specs.declared.effect.Effect.TheVariants as made;
-ghost use Rattle.mr_entries.specs.Cuts.{cut, most_items};
-ghost use Rattle.mr_room.specs.Groups.{TakesItems};
+ghost use Rattle.mr_keyspace.specs.Cuts.{cut, most_items};
+ghost use Rattle.mr_cmd_shared.specs.Groups.{TakesItems};
 
 use crate::groups::MOST_ITEMS;
 use mr_bytes::Word;
+use mr_cmd_shared::Effects;
 use mr_data::{Effect, EffectWords};
-use mr_room::Effects;
 use std::alloc::{AllocError, Global};
 use std::mem::replace;
 
@@ -41,7 +41,9 @@ impl<'k> FieldGroup<'k> {
         effects: &mut Effects,
     ) -> Result<(), AllocError>
         ensures key { self.new.key.now ≡ self.old.key.now }
-        ensures takes { OnOk result (TakesItems (made.RemoveFields self.old.key.now) (if there then field.now ∷ [] else []) self.old.fields self.new.fields effects.old effects.new) }
+        ensures takes { OnOk result
+            (TakesItems (made.RemoveFields self.old.key.now) (if there then field.now ∷ []
+            else []) self.old.fields self.new.fields effects.old effects.new) }
     {
         if there {
             self.push_field(field, effects)
@@ -53,7 +55,9 @@ impl<'k> FieldGroup<'k> {
     /// Takes a field. The effect of a full group is put first.
     fn push_field(&mut self, field: &[u8], effects: &mut Effects) -> Result<(), AllocError>
         ensures key { self.new.key.now ≡ self.old.key.now }
-        ensures takes { OnOk result (TakesItems (made.RemoveFields self.old.key.now) (field.now ∷ []) self.old.fields self.new.fields effects.old effects.new) }
+        ensures takes { OnOk result
+            (TakesItems (made.RemoveFields self.old.key.now) (field.now ∷ []) self.old.fields
+            self.new.fields effects.old effects.new) }
     {
         if self.fields.len() == MOST_ITEMS {
             self.flush(effects)?;
@@ -65,7 +69,8 @@ impl<'k> FieldGroup<'k> {
     /// Puts the effect that removes the fields of the group, which is empty from then on.
     fn flush(&mut self, effects: &mut Effects) -> Result<(), AllocError>
         ensures key { self.new.key.now ≡ self.old.key.now }
-        ensures effects { OnOk result (effects.new ≡ effects.old ++ made.RemoveFields self.old.key.now self.old.fields ∷ []) }
+        ensures effects { OnOk result (effects.new ≡
+            effects.old ++ made.RemoveFields self.old.key.now self.old.fields ∷ []) }
         ensures fields { OnOk result (self.new.fields ≡ []) }
     {
         let key = Word::copied(self.alloc, self.key)?;
@@ -77,7 +82,8 @@ impl<'k> FieldGroup<'k> {
 
 /// Puts the effect of the last group.
 pub fn end_fields(mut group: FieldGroup<'_>, effects: &mut Effects) -> Result<(), AllocError>
-    ensures { OnOk result (effects.new ≡ effects.old ++ map (made.RemoveFields group.entry.key.now) (cut group.entry.fields)) }
+    ensures { OnOk result (effects.new ≡
+        effects.old ++ map (made.RemoveFields group.entry.key.now) (cut group.entry.fields)) }
 {
     if group.fields.is_empty() {
         return Ok(());

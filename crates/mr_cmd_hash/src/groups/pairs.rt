@@ -1,14 +1,14 @@
 // Fields that get values, in groups.
 ghost use Rattle.std.specs.Prelude.{◌≡◌, ◌≤◌, [], ◌∷◌, ◌++◌, length, map, if◌then◌else◌, option_copied, OnOk};
 ghost use Rattle.mr_effect.specs.declared.effect.Effect.TheVariants as made;
-ghost use Rattle.mr_entries.specs.Cuts.{cut, most_items};
+ghost use Rattle.mr_keyspace.specs.Cuts.{cut, most_items};
 ghost use Rattle.mr_cmd_hash.specs.Hashes.{is_value};
-ghost use Rattle.mr_room.specs.Groups.{TakesItems};
+ghost use Rattle.mr_cmd_shared.specs.Groups.{TakesItems};
 
 use crate::groups::MOST_ITEMS;
 use mr_bytes::Word;
+use mr_cmd_shared::Effects;
 use mr_data::{Effect, EffectPairs};
-use mr_room::Effects;
 use std::alloc::{AllocError, Global};
 use std::mem::replace;
 
@@ -43,7 +43,11 @@ impl<'k> PairGroup<'k> {
         effects: &mut Effects,
     ) -> Result<(), AllocError>
         ensures key { self.new.key.now ≡ self.old.key.now }
-        ensures takes { OnOk result (TakesItems (made.SetFields self.old.key.now) (if is_value value.now (option_copied before.entry) then [] else (field.now, value.now) ∷ []) self.old.pairs self.new.pairs effects.old effects.new) }
+        ensures takes { OnOk result
+            (TakesItems (made.SetFields self.old.key.now)
+            (if is_value value.now (option_copied before.entry) then []
+            else (field.now, value.now) ∷ []) self.old.pairs self.new.pairs effects.old
+            effects.new) }
     {
         if is_value(value, before) {
             return Ok(());
@@ -59,7 +63,9 @@ impl<'k> PairGroup<'k> {
         effects: &mut Effects,
     ) -> Result<(), AllocError>
         ensures key { self.new.key.now ≡ self.old.key.now }
-        ensures takes { OnOk result (TakesItems (made.SetFields self.old.key.now) ((field.now, value.now) ∷ []) self.old.pairs self.new.pairs effects.old effects.new) }
+        ensures takes { OnOk result
+            (TakesItems (made.SetFields self.old.key.now) ((field.now, value.now) ∷ [])
+            self.old.pairs self.new.pairs effects.old effects.new) }
     {
         if self.pairs.len() == MOST_ITEMS {
             self.flush(effects)?;
@@ -73,7 +79,8 @@ impl<'k> PairGroup<'k> {
     /// Puts the effect that sets the fields of the group, which is empty from then on.
     fn flush(&mut self, effects: &mut Effects) -> Result<(), AllocError>
         ensures key { self.new.key.now ≡ self.old.key.now }
-        ensures effects { OnOk result (effects.new ≡ effects.old ++ made.SetFields self.old.key.now self.old.pairs ∷ []) }
+        ensures effects { OnOk result (effects.new ≡
+            effects.old ++ made.SetFields self.old.key.now self.old.pairs ∷ []) }
         ensures pairs { OnOk result (self.new.pairs ≡ []) }
     {
         let key = Word::copied(self.alloc, self.key)?;
@@ -85,7 +92,8 @@ impl<'k> PairGroup<'k> {
 
 /// Puts the effect of the last group.
 pub fn end_pairs(mut group: PairGroup<'_>, effects: &mut Effects) -> Result<(), AllocError>
-    ensures { OnOk result (effects.new ≡ effects.old ++ map (made.SetFields group.entry.key.now) (cut group.entry.pairs)) }
+    ensures { OnOk result (effects.new ≡
+        effects.old ++ map (made.SetFields group.entry.key.now) (cut group.entry.pairs)) }
 {
     if group.pairs.is_empty() {
         return Ok(());

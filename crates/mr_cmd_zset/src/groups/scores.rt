@@ -1,15 +1,15 @@
 // Members that get scores, in groups.
 ghost use Rattle.std.specs.Prelude.{◌≡◌, ◌≤◌, [], ◌∷◌, ◌++◌, length, map, OnOk};
 ghost use Rattle.mr_effect.specs.declared.effect.Effect.TheVariants as made;
-ghost use Rattle.mr_entries.specs.Cuts.{cut, most_items};
-ghost use Rattle.mr_room.specs.Groups.{TakesItems};
+ghost use Rattle.mr_keyspace.specs.Cuts.{cut, most_items};
+ghost use Rattle.mr_cmd_shared.specs.Groups.{TakesItems};
 ghost use Rattle.mr_cmd_zset.specs.Scores.{changed_alone};
 
 use crate::groups::MOST_ITEMS;
 use crate::rules::is_same;
 use mr_bytes::Word;
+use mr_cmd_shared::Effects;
 use mr_data::{Effect, Scores};
-use mr_room::Effects;
 use std::alloc::{AllocError, Global};
 use std::mem::replace;
 
@@ -44,7 +44,9 @@ impl<'k> ScoreGroup<'k> {
         effects: &mut Effects,
     ) -> Result<(), AllocError>
         ensures key { self.new.key.now ≡ self.old.key.now }
-        ensures takes { OnOk result (TakesItems (made.SetScores self.old.key.now) (changed_alone member.now before after) self.old.scores self.new.scores effects.old effects.new) }
+        ensures takes { OnOk result
+            (TakesItems (made.SetScores self.old.key.now) (changed_alone member.now before after)
+            self.old.scores self.new.scores effects.old effects.new) }
     {
         match after {
             Some(score) if !is_same(before, after) => self.push_score(member, score, effects),
@@ -60,7 +62,9 @@ impl<'k> ScoreGroup<'k> {
         effects: &mut Effects,
     ) -> Result<(), AllocError>
         ensures key { self.new.key.now ≡ self.old.key.now }
-        ensures takes { OnOk result (TakesItems (made.SetScores self.old.key.now) ((member.now, score) ∷ []) self.old.scores self.new.scores effects.old effects.new) }
+        ensures takes { OnOk result
+            (TakesItems (made.SetScores self.old.key.now) ((member.now, score) ∷ [])
+            self.old.scores self.new.scores effects.old effects.new) }
     {
         if self.scores.len() == MOST_ITEMS {
             self.flush(effects)?;
@@ -72,7 +76,8 @@ impl<'k> ScoreGroup<'k> {
     /// Puts the effect that sets the scores of the group, which is empty from then on.
     fn flush(&mut self, effects: &mut Effects) -> Result<(), AllocError>
         ensures key { self.new.key.now ≡ self.old.key.now }
-        ensures effects { OnOk result (effects.new ≡ effects.old ++ made.SetScores self.old.key.now self.old.scores ∷ []) }
+        ensures effects { OnOk result (effects.new ≡
+            effects.old ++ made.SetScores self.old.key.now self.old.scores ∷ []) }
         ensures scores { OnOk result (self.new.scores ≡ []) }
     {
         let key = Word::copied(self.alloc, self.key)?;
@@ -84,7 +89,8 @@ impl<'k> ScoreGroup<'k> {
 
 /// Puts the effect of the last group.
 pub fn end_scores(mut group: ScoreGroup<'_>, effects: &mut Effects) -> Result<(), AllocError>
-    ensures { OnOk result (effects.new ≡ effects.old ++ map (made.SetScores group.entry.key.now) (cut group.entry.scores)) }
+    ensures { OnOk result (effects.new ≡
+        effects.old ++ map (made.SetScores group.entry.key.now) (cut group.entry.scores)) }
 {
     if group.scores.is_empty() {
         return Ok(());

@@ -3,19 +3,20 @@ ghost use Rattle.std.specs.Prelude.{◌≡◌, ◌≢◌, ◌↔◌, ◌&&◌, [
 ghost use Rattle.std.specs.FinMap as map;
 ghost use Rattle.std.specs.List.{AllByRecursion};
 ghost use Rattle.mr_effect.specs.Effects.{has_spelling, words_fit};
-ghost use Rattle.mr_entries.specs.Changes.{NeedsNoMemory};
+ghost use Rattle.mr_keyspace.specs.Changes.{NeedsNoMemory};
 ghost use Rattle.mr_data.specs.Meaning.{StopsAtOne, apply, apply_all};
 
 use crate::dataset::Dataset;
 use mr_effect::Effect;
-use mr_entries::ApplyFault;
+use mr_keyspace::ApplyFault;
 
 impl Dataset {
     /// Does an effect, whose words are copied. A dataset for which memory ran out is emptied.
     #[tactic(auto, unfolding(crate::specs::Meaning::apply))]
     pub fn apply(&mut self, effect: &Effect<'_>) -> Result<(), ApplyFault>
         ensures ok { OnOk result (apply effect.now self.old ≡ Some self.new) }
-        ensures refused { (result ≡ Err ApplyFault.Refused) ↔ (apply effect.now self.old ≡ None) }
+        ensures refused { (result ≡ Err ApplyFault.Refused) ↔
+            (apply effect.now self.old ≡ None) }
         ensures unchanged { result ≡ Err ApplyFault.Refused → self.new ≡ self.old }
         ensures emptied { result ≡ Err ApplyFault.Memory → self.new ≡ map.empty }
         ensures memory { NeedsNoMemory effect.now → result ≢ Err ApplyFault.Memory }
@@ -33,7 +34,8 @@ impl Dataset {
     #[tactic(auto, unfolding(crate::specs::Meaning::apply))]
     pub fn apply_owned(&mut self, effect: Effect<'_>) -> Result<(), ApplyFault>
         ensures ok { OnOk result (apply effect.entry self.old ≡ Some self.new) }
-        ensures refused { (result ≡ Err ApplyFault.Refused) ↔ (apply effect.entry self.old ≡ None) }
+        ensures refused { (result ≡ Err ApplyFault.Refused) ↔
+            (apply effect.entry self.old ≡ None) }
         ensures unchanged { result ≡ Err ApplyFault.Refused → self.new ≡ self.old }
         ensures emptied { result ≡ Err ApplyFault.Memory → self.new ≡ map.empty }
         ensures memory { NeedsNoMemory effect.entry → result ≢ Err ApplyFault.Memory }
@@ -51,10 +53,13 @@ impl Dataset {
     /// those before it are done, and no other. A dataset for which memory ran out is emptied.
     pub fn apply_all(&mut self, effects: Vec<Effect<'_>>) -> Result<(), ApplyFault>
         ensures ok { OnOk result (apply_all effects.entry.items self.old ≡ Some self.new) }
-        ensures refused { result ≡ Err ApplyFault.Refused → apply_all effects.entry.items self.old ≡ None }
-        ensures begun { result ≡ Err ApplyFault.Refused → StopsAtOne effects.entry.items self.old self.new }
+        ensures refused { result ≡ Err ApplyFault.Refused →
+            apply_all effects.entry.items self.old ≡ None }
+        ensures begun { result ≡ Err ApplyFault.Refused →
+            StopsAtOne effects.entry.items self.old self.new }
         ensures emptied { result ≡ Err ApplyFault.Memory → self.new ≡ map.empty }
-        ensures memory { AllByRecursion NeedsNoMemory effects.entry.items → result ≢ Err ApplyFault.Memory }
+        ensures memory { AllByRecursion NeedsNoMemory effects.entry.items →
+            result ≢ Err ApplyFault.Memory }
         ensures none { effects.entry.items ≡ [] → IsOk result }
     {
         if let Some(key) = self.whole_set(&effects) {

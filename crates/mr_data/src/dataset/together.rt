@@ -2,8 +2,8 @@
 ghost use Rattle.std.specs.Prelude.{◌≡◌, ◌++◌, IsTrue, IfSome, Some, true};
 ghost use Rattle.std.specs.Bool.{⊤, MatchBool};
 ghost use Rattle.mr_bytes.specs.Words.{fits};
-ghost use Rattle.mr_entries.specs.Changes.{at_key};
-ghost use Rattle.mr_entries.specs.Steps.{remove_scores_step};
+ghost use Rattle.mr_keyspace.specs.Changes.{at_key};
+ghost use Rattle.mr_keyspace.specs.Steps.{remove_scores_step};
 ghost use Rattle.mr_zset.specs.Leaving.{texts};
 ghost use Rattle.mr_data.specs.Meaning.{apply_all};
 ghost use Rattle.mr_data.specs.Whole.{TakeAll, TakesMore};
@@ -19,7 +19,8 @@ impl Dataset {
     /// Does several effects at once, where they take members of one sorted set out and do nothing else, and others stay; says
     /// whether it did, for else nothing has changed. It takes memory, but needs none: where it is lacking it does nothing.
     pub(super) fn remove_together(&mut self, alloc: Global, effects: &[Effect<'_>]) -> bool
-        ensures { MatchBool result (apply_all effects.now self.old ≡ Some self.new) (self.new ≡ self.old) }
+        ensures { MatchBool result (apply_all effects.now self.old ≡ Some self.new) (self.new ≡
+            self.old) }
     {
         match self.named_together(alloc, effects) {
             Some((key, members)) => self.entries.remove_many(key, &members).is_ok(),
@@ -34,7 +35,9 @@ impl Dataset {
         effects: &'e [Effect<'_>],
     ) -> Option<(&'e [u8], Vec<&'e [u8]>)>
         ensures fits { IfSome result (λ named. IsTrue (fits named.0.now)) }
-        ensures same { IfSome result (λ named. apply_all effects.now self.now ≡ at_key (remove_scores_step (texts named.1.items)) named.0.now self.now) }
+        ensures same { IfSome result (λ named.
+            apply_all effects.now self.now ≡
+            at_key (remove_scores_step (texts named.1.items)) named.0.now self.now) }
     {
         let [first, _, ..] = effects else {
             return None;
@@ -65,7 +68,8 @@ fn members_of<'e>(alloc: Global, effects: &'e [Effect<'_>], key: &[u8]) -> Optio
 
 /// Whether an effect may be done and takes members out of the sorted set at a key, which are put behind those that are there.
 fn takes_more<'e>(effect: &'e Effect<'_>, key: &[u8], members: &mut Vec<&'e [u8]>) -> bool
-    ensures { MatchBool result (TakesMore key.now effect.now (texts members.old.items) (texts members.new.items)) ⊤ }
+    ensures { MatchBool result
+        (TakesMore key.now effect.now (texts members.old.items) (texts members.new.items)) ⊤ }
 {
     match effect {
         Effect::RemoveScores {

@@ -4,7 +4,7 @@ ghost use Rattle.std.specs.Bool.{⊤, MatchBool};
 ghost use Rattle.std.specs.FinMap as map;
 ghost use Rattle.std.specs.Option.{option_and_then};
 ghost use Rattle.mr_bytes.specs.Words.{fits};
-ghost use Rattle.mr_entries.specs.Steps.{sorted_set_of};
+ghost use Rattle.mr_keyspace.specs.Steps.{sorted_set_of};
 ghost use Rattle.mr_data.specs.Dataset.{IsDataset};
 ghost use Rattle.mr_data.specs.Meaning.{apply_all};
 ghost use Rattle.mr_data.specs.Whole.{names, TakesFirst, TakeAll};
@@ -13,7 +13,7 @@ use crate::dataset::Dataset;
 use crate::dataset::applying::is_possible;
 use mr_bytes::Word;
 use mr_effect::Effect;
-use mr_entries::Value;
+use mr_keyspace::Value;
 use mr_zset::{MemberScores, ZSet};
 
 impl Dataset {
@@ -21,7 +21,8 @@ impl Dataset {
     /// It takes no memory.
     pub(super) fn whole_set<'e>(&self, effects: &'e [Effect<'_>]) -> Option<&'e [u8]>
         ensures fits { IfSome result (λ key. IsTrue (fits key.now)) }
-        ensures goes { IfSome result (λ key. apply_all effects.now self.now ≡ Some (map.remove self.now key.now)) }
+        ensures goes { IfSome result (λ key.
+            apply_all effects.now self.now ≡ Some (map.remove self.now key.now)) }
     {
         let [first, _, ..] = effects else {
             return None;
@@ -38,7 +39,8 @@ impl Dataset {
 
     /// The sorted set at a key, if it holds one.
     pub(super) fn sorted_set(&self, key: &[u8]) -> Option<&ZSet>
-        ensures set { option_copied result ≡ option_and_then (λ e. sorted_set_of e.value) (map.get self.now key.now) }
+        ensures set { option_copied result ≡
+            option_and_then (λ e. sorted_set_of e.value) (map.get self.now key.now) }
         ensures kept { IsDataset self.now }
     {
         match self.value(key) {
@@ -82,7 +84,8 @@ fn take_all(effects: &[Effect<'_>], key: &[u8], members: MemberScores<'_>) -> bo
 /// Whether an effect may be done and takes members out of the sorted set at a key that are the first of these, which are
 /// then behind them.
 fn takes_first(effect: &Effect<'_>, key: &[u8], left: &mut MemberScores<'_>) -> bool
-    ensures { MatchBool result (TakesFirst key.now effect.now (names left.old) (names left.new)) ⊤ }
+    ensures { MatchBool result (TakesFirst key.now effect.now (names left.old) (names left.new))
+        ⊤ }
 {
     match effect {
         Effect::RemoveScores {

@@ -19,7 +19,8 @@ enum Member<'a> {
 
 /// The byte that ends a range whose first byte was read, and what follows it. None where no range begins there.
 fn range_end<'a>(class: &'a [u8]) -> Option<(u8, &'a [u8])>
-    ensures { MatchOption result (IsNoRange class.now) (λ end. EndsRange class.now end.0 end.1.now) }
+    ensures { MatchOption result (IsNoRange class.now) (λ end.
+        EndsRange class.now end.0 end.1.now) }
 {
     let (dash, behind) = next_sign(class)?;
     if !dash.is_bare(b'-') {

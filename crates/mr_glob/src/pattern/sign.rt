@@ -33,7 +33,8 @@ impl Sign {
 
 /// The first sign of a pattern, and what follows it.
 pub(super) fn next_sign<'a>(pattern: &'a [u8]) -> Option<(Sign, &'a [u8])>
-    ensures { MatchOption result (pattern.now ≡ []) (λ found. StartsWith pattern.now found.0 found.1.now) }
+    ensures { MatchOption result (pattern.now ≡ []) (λ found.
+        StartsWith pattern.now found.0 found.1.now) }
 {
     let (first, rest) = pattern.split_first()?;
     if *first != b'\\' {

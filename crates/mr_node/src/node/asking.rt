@@ -1,13 +1,13 @@
 // What a client's request asks of the node itself.
 ghost use Rattle.std.specs.Prelude.{◌≡◌, ◌↔◌, ℕ, List, true, IsTrue, Some, Ok};
 ghost use Rattle.mr_resp.specs.ReplyView.{view};
-ghost use Rattle.mr_room.specs.Answered.{done};
+ghost use Rattle.mr_cmd_shared.specs.Answered.{done};
 ghost use Rattle.mr_data.specs.declared.given.Given.{Given};
 ghost use Rattle.mr_cmd_node.specs.declared.node_ask.NodeAsk.{NodeAsk};
 ghost use Rattle.mr_cmd_node.specs.declared.node_ask.NodeAsk.TheVariants as node;
-ghost use Rattle.mr_ends.specs.Parts.{HasAhead, IsClient};
-ghost use Rattle.mr_outs.specs.Outs.{no_output, no_outs};
-ghost use Rattle.mr_rows.specs.Served.{says};
+ghost use Rattle.mr_node_links.specs.Parts.{HasAhead, IsClient};
+ghost use Rattle.mr_node_output.specs.Outs.{no_output, no_outs};
+ghost use Rattle.mr_node_spec.specs.Served.{says};
 ghost use Rattle.mr_node.specs.Reading.{IsWish, Wishes};
 ghost use Rattle.mr_node.specs.Steps.{ClientStep, IsAt, step_of};
 ghost use Rattle.mr_node.specs.Parts.{Keeps};
@@ -17,9 +17,9 @@ use crate::node::Node;
 use crate::replies::{discard_alone, done, exec_alone, not_chained};
 use crate::request::NodeRequest;
 use crate::step::Outcome;
-use mr_ends::Introduction;
 use mr_links::LinkId;
-use mr_outs::{Address, Outs};
+use mr_node_links::Introduction;
+use mr_node_output::{Address, Outs};
 use mr_repl::ReplId;
 use mr_resp::Reply;
 
@@ -35,7 +35,9 @@ impl Node {
     ) -> Result<Outcome, NodeFault>
         requires client { IsClient self.old.ends link used }
         requires begun { outs.old ≡ record no_outs { link = Some link } }
-        ensures { (u : List ℕ) (given : Given) (wish : NodeAsk) → IsAt self.old link u → Wishes u used wish → IsWish wish request → ClientStep self.old link u given fresh self.new (step_of outs.new result) }
+        ensures { (u : List ℕ) (given : Given) (wish : NodeAsk) → IsAt self.old link u →
+            Wishes u used wish → IsWish wish request →
+            ClientStep self.old link u given fresh self.new (step_of outs.new result) }
     {
         match request {
             NodeRequest::Stream(wish) => {
@@ -76,7 +78,9 @@ impl Node {
     ) -> Result<Outcome, NodeFault>
         requires client { IsClient self.old.ends link used }
         requires begun { outs.old ≡ record no_outs { link = Some link } }
-        ensures { (u : List ℕ) (given : Given) (fresh : List ℕ) → IsAt self.old link u → Wishes u used (node.ReplicaOf address.host address.port) → ClientStep self.old link u given fresh self.new (step_of outs.new result) }
+        ensures { (u : List ℕ) (given : Given) (fresh : List ℕ) → IsAt self.old link u →
+            Wishes u used (node.ReplicaOf address.host address.port) →
+            ClientStep self.old link u given fresh self.new (step_of outs.new result) }
     {
         if self.state.master() {
             return self.demote(link, used, address, outs);
@@ -107,7 +111,9 @@ impl Node {
     ) -> Result<Outcome, NodeFault>
         requires ahead { HasAhead self.old.ends link used }
         requires begun { outs.old ≡ record no_outs { link = Some link } }
-        ensures { (u : List ℕ) (given : Given) (fresh : List ℕ) → IsAt self.old link u → Keeps self.old.core u used (says (view reply.now)) → ClientStep self.old link u given fresh self.new (step_of outs.new result) }
+        ensures { (u : List ℕ) (given : Given) (fresh : List ℕ) → IsAt self.old link u →
+            Keeps self.old.core u used (says (view reply.now)) →
+            ClientStep self.old link u given fresh self.new (step_of outs.new result) }
     {
         if outs.say(reply).is_err() {
             return Err(NodeFault::Memory);
@@ -126,7 +132,9 @@ impl Node {
     ) -> Result<Outcome, NodeFault>
         requires ahead { HasAhead self.old.ends link used }
         requires begun { outs.old ≡ record no_outs { link = Some link } }
-        ensures { (u : List ℕ) (given : Given) (fresh : List ℕ) → IsAt self.old link u → Keeps self.old.core u used (says done) → ClientStep self.old link u given fresh self.new (step_of outs.new result) }
+        ensures { (u : List ℕ) (given : Given) (fresh : List ℕ) → IsAt self.old link u →
+            Keeps self.old.core u used (says done) →
+            ClientStep self.old link u given fresh self.new (step_of outs.new result) }
     {
         let answered = self.say(link, used, &done(), outs);
         if answered.is_ok() {
@@ -138,7 +146,10 @@ impl Node {
     /// Keeps the offset that is acknowledged. Nothing is given out.
     fn acknowledge(&mut self, link: LinkId, used: usize, offset: i64) -> Outcome
         requires { HasAhead self.old.ends link used }
-        ensures { (u : List ℕ) (given : Given) (fresh : List ℕ) → IsAt self.old link u → Keeps self.old.core u used no_output → ClientStep self.old link u given fresh self.new (step_of (record no_outs { link = Some link }) (Ok result)) }
+        ensures { (u : List ℕ) (given : Given) (fresh : List ℕ) → IsAt self.old link u →
+            Keeps self.old.core u used no_output →
+            ClientStep self.old link u given fresh self.new
+            (step_of (record no_outs { link = Some link }) (Ok result)) }
     {
         self.state.acknowledge(link, offset);
         self.advance(link, used);

@@ -7,15 +7,15 @@ ghost use Rattle.mr_resp.specs.ReplyView.{view};
 ghost use Rattle.mr_resp.specs.Request.{IsRequest};
 ghost use Rattle.mr_resp.specs.Spelling.{number_line};
 ghost use Rattle.mr_resp.specs.Usual.{commands, usual};
-ghost use Rattle.mr_entries.specs.Dataset.{Dataset as Held};
+ghost use Rattle.mr_keyspace.specs.Dataset.{Dataset as Held};
 ghost use Rattle.mr_effect.specs.declared.effect.Effect.{Effect};
 ghost use Rattle.mr_groups.specs.Groups.{frame_for};
 ghost use Rattle.mr_data.specs.declared.given.Given.{Given as Moment};
 ghost use Rattle.mr_commands.specs.Requests.{HasPlan, IsPlain};
-ghost use Rattle.mr_ends.specs.Parts.{HasOpen};
-ghost use Rattle.mr_ends.specs.State.{CanWait, Transaction};
-ghost use Rattle.mr_outs.specs.Outs.{no_outs};
-ghost use Rattle.mr_rows.specs.State.{NodeState};
+ghost use Rattle.mr_node_links.specs.Parts.{HasOpen};
+ghost use Rattle.mr_node_links.specs.State.{CanWait, Transaction};
+ghost use Rattle.mr_node_output.specs.Outs.{no_outs};
+ghost use Rattle.mr_node_spec.specs.State.{NodeState};
 ghost use Rattle.mr_node.specs.Executing.{ClosesGroup, CountsDone, DoesEach, DoesOne, Executes, GivesUp, IsWaited, SaysOnly, AreDone};
 ghost use Rattle.mr_node.specs.Parts.{Leads};
 ghost use Rattle.mr_node.specs.Steps.{step_of};
@@ -32,7 +32,7 @@ use mr_commands::not_allowed;
 use mr_data::{Given, Plan};
 use mr_groups::{FRAME, exec_text, multi_text};
 use mr_links::LinkId;
-use mr_outs::Outs;
+use mr_node_output::Outs;
 use mr_repl::OFFSET_LIMIT;
 use mr_resp::{Reply, Scan, next_request, words_fit};
 use std::alloc::AllocError;
@@ -51,7 +51,9 @@ impl Node {
     ) -> Result<Outcome, NodeFault>
         requires open { HasOpen self.old.ends link used }
         requires begun { outs.old ≡ record no_outs { link = Some link } }
-        ensures { (t : Transaction) (u : List ℕ) → IsAtOpen self.old link t u → t.marked ≡ false → Comes (not self.old.core.master) u used within.Run → WithinStep self.old link t u given self.new (step_of outs.new result) }
+        ensures { (t : Transaction) (u : List ℕ) → IsAtOpen self.old link t u →
+            t.marked ≡ false → Comes (not self.old.core.master) u used within.Run →
+            WithinStep self.old link t u given self.new (step_of outs.new result) }
     {
         let transaction = self.state.take_out(link);
         match self.execute_all(transaction.requests(), given, outs) {
@@ -75,8 +77,10 @@ impl Node {
         outs: &mut Outs,
     ) -> Result<(), NodeFault>
         requires requests { All CanWait (map (λ r. r.items) requests.now) }
-        requires empty { (outs.old.grown ≡ []) × (outs.old.appended ≡ []) × (outs.old.fed ≡ []) × (outs.old.reply ≡ []) }
-        ensures { Executes self.old given (map (λ r. r.items) requests.now) outs.old result self.new outs.new }
+        requires empty { (outs.old.grown ≡ []) × (outs.old.appended ≡ []) ×
+            (outs.old.fed ≡ []) × (outs.old.reply ≡ []) }
+        ensures { Executes self.old given (map (λ r. r.items) requests.now) outs.old result
+            self.new outs.new }
     {
         if outs.feed(self.state.ends().replicas()).is_err() {
             return Err(NodeFault::Memory);
@@ -100,7 +104,8 @@ impl Node {
         requires requests { All CanWait (map (λ r. r.items) requests.now) }
         requires grown { outs.old.grown ≡ [] }
         requires appended { outs.old.appended ≡ [] }
-        ensures { DoesEach self.old given (map (λ r. r.items) requests.now) outs.old result self.new outs.new }
+        ensures { DoesEach self.old given (map (λ r. r.items) requests.now) outs.old result
+            self.new outs.new }
     {
         // its clause bounds the offset
         let _ = self.state.lineage().stream().end();
@@ -130,7 +135,9 @@ impl Node {
     /// The texts of so many effects stand in a frame where they are several, and behind the stream. Where there are none nobody is fed.
     fn close_group(&mut self, count: usize, outs: &mut Outs) -> Result<(), NodeFault>
         requires { CountsDone count self.old outs.old }
-        ensures { (a : NodeState) (effects : List Effect) (m : Held) → AreDone a effects m self.old outs.old → count ≡ length effects → ClosesGroup effects self.old outs.old result self.new outs.new }
+        ensures { (a : NodeState) (effects : List Effect) (m : Held) →
+            AreDone a effects m self.old outs.old → count ≡ length effects →
+            ClosesGroup effects self.old outs.old result self.new outs.new }
     {
         if count == 0 {
             outs.feed_nobody();
@@ -156,7 +163,10 @@ impl Node {
     ) -> Result<usize, NodeFault>
         requires request { CanWait request.now }
         requires same { outs.old.appended ≡ outs.old.grown }
-        ensures { (a : NodeState) (words : List (List ℕ)) (effects : List Effect) (m : Held) → IsRequest usual request.now words → AreDone a effects m self.old outs.old → before ≡ length effects → DoesOne a given words effects m outs.old self.old result self.new outs.new }
+        ensures { (a : NodeState) (words : List (List ℕ)) (effects : List Effect) (m : Held) →
+            IsRequest usual request.now words → AreDone a effects m self.old outs.old →
+            before ≡ length effects →
+            DoesOne a given words effects m outs.old self.old result self.new outs.new }
     {
         let Ok(scan) = next_request(self.alloc, request) else {
             return Err(NodeFault::Memory);
@@ -199,7 +209,11 @@ impl Node {
     ) -> Result<usize, NodeFault>
         requires leads { Leads plan.effects.items self.old.core.held }
         requires same { outs.old.appended ≡ outs.old.grown }
-        ensures { (a : NodeState) (given : Moment) (words : List (List ℕ)) (effects : List Effect) (m : Held) → IsPlain words → HasPlan (not a.core.master) m words given (view plan.reply) plan.effects.items → AreDone a effects m self.old outs.old → before ≡ length effects → DoesOne a given words effects m outs.old self.old result self.new outs.new }
+        ensures { (a : NodeState) (given : Moment) (words : List (List ℕ)) (effects : List Effect)
+            (m : Held) → IsPlain words →
+            HasPlan (not a.core.master) m words given (view plan.reply) plan.effects.items →
+            AreDone a effects m self.old outs.old → before ≡ length effects →
+            DoesOne a given words effects m outs.old self.old result self.new outs.new }
     {
         let Plan { reply, effects } = plan;
         let count = effects.len();

@@ -1,18 +1,18 @@
 // A step at the link to the master, and what a node does where its file fails.
 ghost use Rattle.std.specs.Prelude.{◌≡◌, false, true, Some, bytes_eq};
-ghost use Rattle.mr_course.specs.State.{name_of};
-ghost use Rattle.mr_rows.specs.State.{stopped_as};
+ghost use Rattle.mr_replication.specs.State.{name_of};
+ghost use Rattle.mr_node_spec.specs.State.{stopped_as};
 ghost use Rattle.mr_links.specs.declared.link_id.LinkId.{LinkId};
-ghost use Rattle.mr_outs.specs.Outs.{no_outs};
-ghost use Rattle.mr_rows.specs.UpstreamRows.{beat, outs_behind};
+ghost use Rattle.mr_node_output.specs.Outs.{no_outs};
+ghost use Rattle.mr_node_spec.specs.UpstreamRows.{beat, outs_behind};
 ghost use Rattle.mr_node.specs.Steps.{MasterStep, step_of};
 
 use crate::fault::NodeFault;
 use crate::node::Node;
 use crate::step::Outcome;
-use mr_course::{UpstreamFault, UpstreamStep};
 use mr_links::LinkId;
-use mr_outs::Outs;
+use mr_node_output::Outs;
+use mr_replication::{UpstreamFault, UpstreamStep};
 
 /// The text of a heartbeat.
 const BEAT: &[u8] = b"*1\r\n$4\r\nPING\r\n";
@@ -54,7 +54,8 @@ impl Node {
 /// What a step at the link to the master gives out.
 fn carry(step: UpstreamStep, told: Vec<u8>, outs: &mut Outs)
     requires { (l : LinkId) × (outs.old ≡ record no_outs { link = Some l }) }
-    ensures { (l : LinkId) → outs.old ≡ record no_outs { link = Some l } → outs.new ≡ outs_behind step l told.items }
+    ensures { (l : LinkId) → outs.old ≡ record no_outs { link = Some l } →
+        outs.new ≡ outs_behind step l told.items }
 {
     match step {
         UpstreamStep::Idle | UpstreamStep::Announced | UpstreamStep::Continued => {}

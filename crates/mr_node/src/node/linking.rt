@@ -1,15 +1,15 @@
 // Links that come, are fed and go.
 ghost use Rattle.std.specs.Prelude.{◌≡◌, ◌+◌, ◌↔◌, ◌⊎◌, [], true, false, None, IfNone, IfSome, IsTrue, length};
-ghost use Rattle.mr_rows.specs.State.{Agrees, end_of, room_of};
-ghost use Rattle.mr_rows.specs.LinkRows.{Opens, closed_at};
+ghost use Rattle.mr_node_spec.specs.State.{Agrees, end_of, room_of};
+ghost use Rattle.mr_node_spec.specs.LinkRows.{Opens, closed_at};
 ghost use Rattle.mr_node.specs.Calls.{DialRow, FeedRow, IsClients, IsUnread, OpenRow, OpensNoMore, OpensOn, Unreads};
 
 use crate::fault::NodeFault;
 use crate::node::Node;
-use mr_ends::Kind;
-use mr_follow::fed_bytes_are_unread;
+use mr_follower::fed_bytes_are_unread;
 use mr_links::{LINKS_LIMIT, LinkId};
-use mr_outs::Outs;
+use mr_node_links::Kind;
+use mr_node_output::Outs;
 use std::hash::RandomState;
 
 /// The first line of the handshake.
@@ -41,7 +41,8 @@ impl Node {
 
     /// Whether the node is a replica without a link to its master, stopped or not.
     pub fn waits(&self) -> bool
-        ensures { IsTrue result ↔ ((self.now.core.master ≡ false) × (self.now.follow ≡ None)) }
+        ensures { IsTrue result ↔
+            ((self.now.core.master ≡ false) × (self.now.follow ≡ None)) }
     {
         !self.state.master() && self.state.followed().is_none()
     }
@@ -113,7 +114,8 @@ impl Node {
     pub fn unread(&self, link: LinkId) -> Option<usize>
         ensures count { IsUnread self.now link result }
         ensures there { IfSome result (λ count. Unreads self.now link count) }
-        ensures absent { IfNone result ((self.now.core.up ≡ false) ⊎ (end_of self.now link ≡ None)) }
+        ensures absent { IfNone result ((self.now.core.up ≡ false) ⊎
+            (end_of self.now link ≡ None)) }
     {
         if !self.state.up() {
             return None;

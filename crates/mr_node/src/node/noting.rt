@@ -1,7 +1,7 @@
 // A step at a replica's end.
 ghost use Rattle.std.specs.Prelude.{◌≡◌, ℕ, List, Some};
-ghost use Rattle.mr_outs.specs.Outs.{no_outs};
-ghost use Rattle.mr_rows.specs.State.{ReplicaAgrees};
+ghost use Rattle.mr_node_output.specs.Outs.{no_outs};
+ghost use Rattle.mr_node_spec.specs.State.{ReplicaAgrees};
 ghost use Rattle.mr_node.specs.Steps.{IsAtReplica, ReplicaStep, step_of};
 ghost use Rattle.mr_node.specs.Noting.{NotedAt};
 
@@ -10,7 +10,7 @@ use crate::node::Node;
 use crate::noted::{Noted, noted_of};
 use crate::step::Outcome;
 use mr_links::LinkId;
-use mr_outs::Outs;
+use mr_node_output::Outs;
 use std::alloc::AllocError;
 
 impl Node {
@@ -18,7 +18,8 @@ impl Node {
     pub(crate) fn note(&mut self, link: LinkId, outs: &mut Outs) -> Result<Outcome, NodeFault>
         requires at { (u : List ℕ) × IsAtReplica self.old link u }
         requires begun { outs.old ≡ record no_outs { link = Some link } }
-        ensures { (u : List ℕ) → IsAtReplica self.old link u → ReplicaStep self.old link u self.new (step_of outs.new result) }
+        ensures { (u : List ℕ) → IsAtReplica self.old link u →
+            ReplicaStep self.old link u self.new (step_of outs.new result) }
     {
         let Ok(noted) = self.noted(link) else {
             return Err(NodeFault::Memory);

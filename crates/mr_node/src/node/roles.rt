@@ -1,16 +1,16 @@
 // A change of roles.
 ghost use Rattle.std.specs.Prelude.{◌≡◌, ◌≢◌, ◌<◌, ℕ, List, [], true, false, Some, OnOk};
 ghost use Rattle.mr_resp.specs.Replies.{reply_text};
-ghost use Rattle.mr_room.specs.Answered.{done};
+ghost use Rattle.mr_cmd_shared.specs.Answered.{done};
 ghost use Rattle.mr_data.specs.declared.given.Given.{Given};
 ghost use Rattle.mr_cmd_node.specs.declared.node_ask.NodeAsk.TheVariants as node;
 ghost use Rattle.mr_links.specs.declared.link_id.LinkId.{LinkId};
-ghost use Rattle.mr_ends.specs.Parts.{HasAhead};
-ghost use Rattle.mr_ends.specs.Replicas.{Lists};
-ghost use Rattle.mr_outs.specs.Outs.{no_outs};
-ghost use Rattle.mr_rows.specs.Ends.{names_of};
-ghost use Rattle.mr_rows.specs.Sound.{ports};
-ghost use Rattle.mr_course.specs.State.{name_of};
+ghost use Rattle.mr_node_links.specs.Parts.{HasAhead};
+ghost use Rattle.mr_node_links.specs.Replicas.{Lists};
+ghost use Rattle.mr_node_output.specs.Outs.{no_outs};
+ghost use Rattle.mr_node_spec.specs.Ends.{names_of};
+ghost use Rattle.mr_node_spec.specs.Sound.{ports};
+ghost use Rattle.mr_replication.specs.State.{name_of};
 ghost use Rattle.mr_node.specs.Reading.{Wishes};
 ghost use Rattle.mr_node.specs.Steps.{ClientStep, IsAt, step_of};
 
@@ -18,7 +18,7 @@ use crate::fault::NodeFault;
 use crate::node::Node;
 use crate::step::Outcome;
 use mr_links::LinkId;
-use mr_outs::{Address, Outs};
+use mr_node_output::{Address, Outs};
 use mr_repl::ReplId;
 use std::alloc::AllocError;
 
@@ -34,7 +34,9 @@ impl Node {
         requires ahead { HasAhead self.old.ends link used }
         requires begun { outs.old ≡ record no_outs { link = Some link } }
         requires replica { self.old.core.master ≡ false }
-        ensures { (u : List ℕ) (given : Given) → IsAt self.old link u → Wishes u used node.NoOne → ClientStep self.old link u given fresh self.new (step_of outs.new result) }
+        ensures { (u : List ℕ) (given : Given) → IsAt self.old link u →
+            Wishes u used node.NoOne →
+            ClientStep self.old link u given fresh self.new (step_of outs.new result) }
     {
         if self.put_leaving(outs).is_err() {
             return Err(NodeFault::Memory);
@@ -57,7 +59,9 @@ impl Node {
         requires begun { outs.old ≡ record no_outs { link = Some link } }
         requires replica { self.old.core.master ≡ false }
         requires another { self.old.core.upstream ≢ Some address }
-        ensures { (u : List ℕ) (given : Given) (fresh : List ℕ) → IsAt self.old link u → Wishes u used (node.ReplicaOf address.host address.port) → ClientStep self.old link u given fresh self.new (step_of outs.new result) }
+        ensures { (u : List ℕ) (given : Given) (fresh : List ℕ) → IsAt self.old link u →
+            Wishes u used (node.ReplicaOf address.host address.port) →
+            ClientStep self.old link u given fresh self.new (step_of outs.new result) }
     {
         if self.put_leaving(outs).is_err() || self.put_following(&address, outs).is_err() {
             return Err(NodeFault::Memory);
@@ -78,7 +82,9 @@ impl Node {
         requires ahead { HasAhead self.old.ends link used }
         requires begun { outs.old ≡ record no_outs { link = Some link } }
         requires master { self.old.core.master ≡ true }
-        ensures { (u : List ℕ) (given : Given) (fresh : List ℕ) → IsAt self.old link u → Wishes u used (node.ReplicaOf address.host address.port) → ClientStep self.old link u given fresh self.new (step_of outs.new result) }
+        ensures { (u : List ℕ) (given : Given) (fresh : List ℕ) → IsAt self.old link u →
+            Wishes u used (node.ReplicaOf address.host address.port) →
+            ClientStep self.old link u given fresh self.new (step_of outs.new result) }
     {
         if self.put_dismissal(outs).is_err() || self.put_following(&address, outs).is_err() {
             return Err(NodeFault::Memory);
@@ -91,7 +97,9 @@ impl Node {
     /// OK, and the link to the master is closed.
     fn put_leaving(&self, outs: &mut Outs) -> Result<(), AllocError>
         requires { (outs.old.reply ≡ []) × (outs.old.closed ≡ []) }
-        ensures { OnOk result (outs.new ≡ record outs.old { reply = reply_text done; closed = names_of (name_of self.now.follow) }) }
+        ensures { OnOk result (outs.new ≡
+            record outs.old
+            { reply = reply_text done; closed = names_of (name_of self.now.follow) }) }
     {
         outs.say_bytes(b"+OK\r\n")?;
         match self.state.followed() {
@@ -103,7 +111,8 @@ impl Node {
     /// OK, and the replicas' links are closed.
     fn put_dismissal(&self, outs: &mut Outs) -> Result<(), AllocError>
         requires { (outs.old.reply ≡ []) × (outs.old.closed ≡ []) }
-        ensures { OnOk result ((names : List LinkId) × Lists names self.now.ends.open_links × (outs.new ≡ record outs.old { reply = reply_text done; closed = names })) }
+        ensures { OnOk result ((names : List LinkId) × Lists names self.now.ends.open_links ×
+            (outs.new ≡ record outs.old { reply = reply_text done; closed = names })) }
     {
         outs.say_bytes(b"+OK\r\n")?;
         outs.close_all(self.state.ends().replicas())

@@ -1,8 +1,8 @@
 // A step, at whatever end.
 ghost use Rattle.std.specs.Prelude.{◌≡◌, ℕ, List, true, not, Some, Ok, Err};
 ghost use Rattle.std.specs.Prelude.{Result};
-ghost use Rattle.mr_outs.specs.Outs.{no_outs};
-ghost use Rattle.mr_rows.specs.State.{Agrees};
+ghost use Rattle.mr_node_output.specs.Outs.{no_outs};
+ghost use Rattle.mr_node_spec.specs.State.{Agrees};
 ghost use Rattle.mr_node.specs.Reading.{TodoAt};
 ghost use Rattle.mr_node.specs.Steps.{ClientStep, IsAt, Steps, step_of};
 
@@ -11,9 +11,9 @@ use crate::node::Node;
 use crate::step::{Outcome, Step};
 use crate::todo::{Todo, todo_of};
 use mr_data::Given;
-use mr_ends::Kind;
 use mr_links::LinkId;
-use mr_outs::Outs;
+use mr_node_links::Kind;
+use mr_node_output::Outs;
 use mr_repl::ReplId;
 use std::alloc::AllocError;
 
@@ -83,7 +83,8 @@ impl Node {
     ) -> Result<Outcome, NodeFault>
         requires at { (u : List ℕ) × IsAt self.old link u }
         requires begun { outs.old ≡ record no_outs { link = Some link } }
-        ensures { (u : List ℕ) → IsAt self.old link u → ClientStep self.old link u given fresh self.new (step_of outs.new result) }
+        ensures { (u : List ℕ) → IsAt self.old link u →
+            ClientStep self.old link u given fresh self.new (step_of outs.new result) }
     {
         let Ok(todo) = self.todo(link, given) else {
             return Err(NodeFault::Memory);
@@ -107,7 +108,8 @@ impl Node {
     /// What is to be done about a client's unread bytes.
     fn todo(&self, link: LinkId, given: Given) -> Result<Todo, AllocError>
         requires { (u : List ℕ) × Agrees self.now link u }
-        ensures { (u : List ℕ) → Agrees self.now link u → TodoAt (not self.now.core.master) u given self.now.core.held result }
+        ensures { (u : List ℕ) → Agrees self.now link u →
+            TodoAt (not self.now.core.master) u given self.now.core.held result }
     {
         let Some(end) = self.state.ends().get(link) else {
             unreachable!()

@@ -2,12 +2,12 @@
 ghost use Rattle.std.specs.Prelude.{◌≡◌, ◌≤◌, ◌+◌, ◌++◌, ℕ, ℤ, pos, List, [], true, OnOk, Some, length};
 ghost use Rattle.mr_data.specs.declared.given.Given.{Given};
 ghost use Rattle.mr_cmd_node.specs.declared.node_ask.NodeAsk.TheVariants as node;
-ghost use Rattle.mr_ends.specs.Parts.{IsClient};
-ghost use Rattle.mr_outs.specs.Outs.{no_outs};
+ghost use Rattle.mr_node_links.specs.Parts.{IsClient};
+ghost use Rattle.mr_node_output.specs.Outs.{no_outs};
 ghost use Rattle.mr_repl.specs.Backlog.{first_of, bytes_from, offset_limit};
 ghost use Rattle.mr_peer_lines.specs.Written.{reply_line, length_line};
 ghost use Rattle.mr_peer_lines.specs.declared.psync.PsyncReply.TheVariants.{FullResync, Continue};
-ghost use Rattle.mr_rows.specs.Growing.{Remakes, rebuilt};
+ghost use Rattle.mr_node_spec.specs.Growing.{Remakes, rebuilt};
 ghost use Rattle.mr_data.specs.Rebuilding.{rebuilding};
 ghost use Rattle.mr_node.specs.Reading.{Wishes};
 ghost use Rattle.mr_node.specs.Steps.{ClientStep, IsAt, step_of};
@@ -18,7 +18,7 @@ use crate::node::Node;
 use crate::request::StreamWish;
 use crate::step::Outcome;
 use mr_links::LinkId;
-use mr_outs::Outs;
+use mr_node_output::Outs;
 use mr_peer_lines::{write_continue, write_full, write_length};
 use mr_repl::{OFFSET_LIMIT, PsyncAnswer, decide};
 use std::alloc::AllocError;
@@ -35,7 +35,9 @@ impl Node {
         requires client { IsClient self.old.ends link used }
         requires begun { outs.old ≡ record no_outs { link = Some link } }
         requires master { self.old.core.master ≡ true }
-        ensures { (u : List ℕ) (given : Given) (fresh : List ℕ) → IsAt self.old link u → Wishes u used (node.Psync wish.now.id.items wish.now.wanted) → ClientStep self.old link u given fresh self.new (step_of outs.new result) }
+        ensures { (u : List ℕ) (given : Given) (fresh : List ℕ) → IsAt self.old link u →
+            Wishes u used (node.Psync wish.now.id.items wish.now.wanted) →
+            ClientStep self.old link u given fresh self.new (step_of outs.new result) }
     {
         if self
             .put_stream(wish.id.as_slice(), wish.wanted(), outs)
@@ -52,7 +54,8 @@ impl Node {
     /// The answer to PSYNC: the stream from the byte that is wanted, where it may be continued there, and else the whole dataset.
     fn put_stream(&self, id: &[u8], wanted: i64, outs: &mut Outs) -> Result<(), AllocError>
         requires { outs.old.reply ≡ [] }
-        ensures { OnOk result (Offers self.now.core.lineage self.now.core.held id.now wanted outs.old outs.new) }
+        ensures { OnOk result
+            (Offers self.now.core.lineage self.now.core.held id.now wanted outs.old outs.new) }
     {
         match decide(id, wanted, &self.state.lineage().standing()) {
             PsyncAnswer::Continue(from) => self.put_tail(from, outs),
@@ -65,7 +68,11 @@ impl Node {
         requires empty { outs.old.reply ≡ [] }
         requires held { first_of self.now.core.lineage.stream ≤ from }
         requires within { from ≤ self.now.core.lineage.stream.offset + 1 }
-        ensures { OnOk result (outs.new ≡ record outs.old { reply = reply_line (Continue self.now.core.lineage.id) ++ bytes_from self.now.core.lineage.stream from }) }
+        ensures { OnOk result (outs.new ≡
+            record outs.old {
+              reply = reply_line (Continue self.now.core.lineage.id) ++
+                  bytes_from self.now.core.lineage.stream from;
+            }) }
     {
         let lineage = self.state.lineage();
         let mut line = Vec::new(self.alloc);
@@ -81,7 +88,9 @@ impl Node {
         ensures remakes { OnOk result (Remakes (rebuilding self.now.core.held) self.now.core.held) }
         ensures counted { OnOk result (length (rebuilt self.now.core.held) ≤ offset_limit) }
         ensures text { OnOk result (outs.new ≡ record outs.old {
-          reply = reply_line (FullResync self.now.core.lineage.id self.now.core.lineage.stream.offset) ++ (length_line (length (rebuilt self.now.core.held)) ++ rebuilt self.now.core.held);
+          reply = reply_line
+              (FullResync self.now.core.lineage.id self.now.core.lineage.stream.offset) ++
+              (length_line (length (rebuilt self.now.core.held)) ++ rebuilt self.now.core.held);
         }) }
     {
         let lineage = self.state.lineage();

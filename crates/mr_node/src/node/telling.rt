@@ -5,10 +5,10 @@ ghost use Rattle.mr_resp.specs.ReplyView.{view};
 ghost use Rattle.mr_data.specs.declared.given.Given.{Given};
 ghost use Rattle.mr_info.specs.Info.{info_text};
 ghost use Rattle.mr_links.specs.declared.link_id.LinkId.{LinkId};
-ghost use Rattle.mr_ends.specs.Parts.{HasAhead};
-ghost use Rattle.mr_ends.specs.Replicas.{Lists};
-ghost use Rattle.mr_outs.specs.Outs.{no_outs};
-ghost use Rattle.mr_rows.specs.Telling.{link_of};
+ghost use Rattle.mr_node_links.specs.Parts.{HasAhead};
+ghost use Rattle.mr_node_links.specs.Replicas.{Lists};
+ghost use Rattle.mr_node_output.specs.Outs.{no_outs};
+ghost use Rattle.mr_node_spec.specs.Telling.{link_of};
 ghost use Rattle.mr_node.specs.Reading.{Questions};
 ghost use Rattle.mr_node.specs.Steps.{ClientStep, IsAt, step_of};
 ghost use Rattle.mr_node.specs.Parts.{ListsReplicas, TellsInfo, TellsOf, role_of};
@@ -18,11 +18,11 @@ use crate::node::Node;
 use crate::role::Role;
 use crate::step::Outcome;
 use mr_cmd_server::Question;
-use mr_ends::LinkEnd;
-use mr_follow::Phase;
+use mr_follower::Phase;
 use mr_info::{MasterLink, Replica, info, master_role, replica_role};
 use mr_links::LinkId;
-use mr_outs::{Address, Outs};
+use mr_node_links::LinkEnd;
+use mr_node_output::{Address, Outs};
 use mr_resp::Reply;
 use std::alloc::AllocError;
 
@@ -31,7 +31,8 @@ impl Node {
     pub fn info(&self) -> Result<Vec<u8>, NodeFault>
         ensures text { IfOk result (λ text. TellsInfo self.now text.items) }
         ensures stopped { IsErrOf result NodeFault.Stopped ↔ (self.now.core.up ≡ false) }
-        ensures no_other { IfErr result (λ e. (e ≡ NodeFault.Memory) ⊎ (e ≡ NodeFault.Stopped)) }
+        ensures no_other { IfErr result (λ e. (e ≡ NodeFault.Memory) ⊎
+            (e ≡ NodeFault.Stopped)) }
     {
         if !self.state.up() {
             return Err(NodeFault::Stopped);
@@ -67,7 +68,9 @@ impl Node {
     ) -> Result<Outcome, NodeFault>
         requires ahead { HasAhead self.old.ends link used }
         requires begun { outs.old ≡ record no_outs { link = Some link } }
-        ensures { (u : List ℕ) (given : Given) (fresh : List ℕ) → IsAt self.old link u → Questions u used question → ClientStep self.old link u given fresh self.new (step_of outs.new result) }
+        ensures { (u : List ℕ) (given : Given) (fresh : List ℕ) → IsAt self.old link u →
+            Questions u used question →
+            ClientStep self.old link u given fresh self.new (step_of outs.new result) }
     {
         let Ok(reply) = self.answer_about(question) else {
             return Err(NodeFault::Memory);
@@ -183,16 +186,8 @@ fn seen(end: Option<&LinkEnd>) -> Replica<'_> {
     };
     let said = end.introduction();
     Replica {
-        address: option_slice(&said.address),
-        port: option_slice(&said.port),
+        address: said.address(),
+        port: said.port(),
         acknowledged: Some(end.acknowledged()),
-    }
-}
-
-/// The bytes of a word, if there is one.
-fn option_slice(word: &Option<Vec<u8>>) -> Option<&[u8]> {
-    match word {
-        None => None,
-        Some(word) => Some(word.as_slice()),
     }
 }

@@ -5,9 +5,9 @@ ghost use Rattle.mr_effect.specs.declared.effect.Effect.TheVariants as effect;
 ghost use Rattle.mr_links.specs.declared.link_id.LinkId.{LinkId};
 ghost use Rattle.mr_data.specs.Due.{HasWord};
 ghost use Rattle.mr_data.specs.Given.{IsMoment};
-ghost use Rattle.mr_outs.specs.Outs.{no_outs};
-ghost use Rattle.mr_rows.specs.TimeRows.{IsStreaming};
-ghost use Rattle.mr_rows.specs.Acknowledging.{acknowledgement};
+ghost use Rattle.mr_node_output.specs.Outs.{no_outs};
+ghost use Rattle.mr_node_spec.specs.TimeRows.{IsStreaming};
+ghost use Rattle.mr_node_spec.specs.Acknowledging.{acknowledgement};
 ghost use Rattle.mr_node.specs.Calls.{TickStep};
 ghost use Rattle.mr_node.specs.Ticking.{Doomed, Fitting, IsSince, PutsBeats, SinceBeat};
 
@@ -16,9 +16,9 @@ use crate::node::Node;
 use itoa::Buffer;
 use mr_bytes::Word;
 use mr_data::{Dataset, DueKey, Effect, Given};
-use mr_follow::Phase;
+use mr_follower::Phase;
 use mr_links::LinkId;
-use mr_outs::Outs;
+use mr_node_output::Outs;
 use mr_repl::OFFSET_LIMIT;
 use mr_resp::write_request;
 use std::alloc::{AllocError, Global};
@@ -195,7 +195,8 @@ impl Node {
     /// How far the node holds its master's stream.
     fn put_acknowledgement(&self, outs: &mut Outs) -> Result<(), AllocError>
         requires { outs.old.reply ≡ [] }
-        ensures { OnOk result (outs.new ≡ record outs.old { reply = acknowledgement self.now.core.lineage.stream.offset }) }
+        ensures { OnOk result (outs.new ≡
+            record outs.old { reply = acknowledgement self.now.core.lineage.stream.offset }) }
     {
         let mut buffer = Buffer::new();
         let offset = buffer
@@ -249,8 +250,15 @@ fn put_deletions(
 /// Puts the text of a deletion into the outs, if there is room.
 fn tell(outs: &mut Outs, key: &[u8], room: u64) -> Result<bool, AllocError>
     requires { outs.old.appended ≡ outs.old.grown }
-    ensures fits { IfOk result (λ fits. fits ≡ nat_le (length outs.old.grown + size (effect.Del key.now)) room) }
-    ensures outs { IfOk result (λ fits. outs.new ≡ if fits then record outs.old { grown = outs.old.grown ++ text (effect.Del key.now); appended = outs.old.appended ++ text (effect.Del key.now) } else outs.old) }
+    ensures fits { IfOk result (λ fits.
+        fits ≡ nat_le (length outs.old.grown + size (effect.Del key.now)) room) }
+    ensures outs { IfOk result (λ fits. outs.new ≡ if fits
+        then record outs.old {
+          grown = outs.old.grown ++
+              text (effect.Del key.now);
+          appended = outs.old.appended ++ text (effect.Del key.now);
+        }
+        else outs.old) }
 {
     let key = Word::borrowed(key);
     let fits = outs.grow_within(&Effect::Del { key }, room)?;

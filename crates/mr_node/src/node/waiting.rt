@@ -4,10 +4,10 @@ ghost use Rattle.mr_resp.specs.ReplyView.{view};
 ghost use Rattle.mr_cmd_node.specs.declared.node_ask.NodeAsk.TheVariants as node;
 ghost use Rattle.mr_data.specs.declared.given.Given.{Given};
 ghost use Rattle.mr_commands.specs.declared.transactions.Within.TheVariants as within;
-ghost use Rattle.mr_ends.specs.Parts.{HasOpen, IsClient};
-ghost use Rattle.mr_ends.specs.State.{CanWait, Transaction};
-ghost use Rattle.mr_rows.specs.State.{AgreesWithin};
-ghost use Rattle.mr_outs.specs.Outs.{no_outs};
+ghost use Rattle.mr_node_links.specs.Parts.{HasOpen, IsClient};
+ghost use Rattle.mr_node_links.specs.State.{CanWait, Transaction};
+ghost use Rattle.mr_node_spec.specs.State.{AgreesWithin};
+ghost use Rattle.mr_node_output.specs.Outs.{no_outs};
 ghost use Rattle.mr_node.specs.Reading.{Wishes};
 ghost use Rattle.mr_node.specs.Steps.{ClientStep, IsAt, step_of};
 ghost use Rattle.mr_node.specs.Within.{Comes, EndsWith, IsAtOpen, TodoAtOpen, WithinStep};
@@ -20,7 +20,7 @@ use crate::within::{TodoWithin, todo_within};
 use mr_commands::Within;
 use mr_data::Given;
 use mr_links::LinkId;
-use mr_outs::Outs;
+use mr_node_output::Outs;
 use mr_resp::Reply;
 use std::alloc::AllocError;
 
@@ -35,7 +35,9 @@ impl Node {
     ) -> Result<Outcome, NodeFault>
         requires client { IsClient self.old.ends link used }
         requires begun { outs.old ≡ record no_outs { link = Some link } }
-        ensures { (u : List ℕ) (given : Given) (fresh : List ℕ) → IsAt self.old link u → Wishes u used node.Multi → ClientStep self.old link u given fresh self.new (step_of outs.new result) }
+        ensures { (u : List ℕ) (given : Given) (fresh : List ℕ) → IsAt self.old link u →
+            Wishes u used node.Multi →
+            ClientStep self.old link u given fresh self.new (step_of outs.new result) }
     {
         if outs.say(&done()).is_err() {
             return Err(NodeFault::Memory);
@@ -56,7 +58,8 @@ impl Node {
     ) -> Result<Outcome, NodeFault>
         requires at { (t : Transaction) × (u : List ℕ) × IsAtOpen self.old link t u }
         requires begun { outs.old ≡ record no_outs { link = Some link } }
-        ensures { (t : Transaction) (u : List ℕ) → IsAtOpen self.old link t u → WithinStep self.old link t u given self.new (step_of outs.new result) }
+        ensures { (t : Transaction) (u : List ℕ) → IsAtOpen self.old link t u →
+            WithinStep self.old link t u given self.new (step_of outs.new result) }
     {
         let Ok(todo) = self.todo_within(link) else {
             return Err(NodeFault::Memory);
@@ -78,7 +81,8 @@ impl Node {
     /// What is to be done about the unread bytes there.
     fn todo_within(&self, link: LinkId) -> Result<TodoWithin, AllocError>
         requires { (t : Transaction) × (u : List ℕ) × IsAtOpen self.now link t u }
-        ensures { (t : Transaction) (u : List ℕ) → IsAtOpen self.now link t u → TodoAtOpen (not self.now.core.master) u result }
+        ensures { (t : Transaction) (u : List ℕ) → IsAtOpen self.now link t u →
+            TodoAtOpen (not self.now.core.master) u result }
     {
         let Some(end) = self.state.ends().get(link) else {
             unreachable!()
@@ -100,9 +104,12 @@ impl Node {
         given: Given,
         outs: &mut Outs,
     ) -> Result<Outcome, NodeFault>
-        requires comes { (t : Transaction) × (u : List ℕ) × IsAtOpen self.old link t u × Comes (not self.old.core.master) u used within }
+        requires comes { (t : Transaction) × (u : List ℕ) × IsAtOpen self.old link t u ×
+            Comes (not self.old.core.master) u used within }
         requires begun { outs.old ≡ record no_outs { link = Some link } }
-        ensures { (t : Transaction) (u : List ℕ) → IsAtOpen self.old link t u → Comes (not self.old.core.master) u used within → WithinStep self.old link t u given self.new (step_of outs.new result) }
+        ensures { (t : Transaction) (u : List ℕ) → IsAtOpen self.old link t u →
+            Comes (not self.old.core.master) u used within →
+            WithinStep self.old link t u given self.new (step_of outs.new result) }
     {
         match within {
             Within::Queue => self.queue(link, used, outs),
@@ -123,7 +130,8 @@ impl Node {
     /// Whether nothing is to be done at the end of the transaction.
     fn is_marked(&self, link: LinkId) -> bool
         requires { HasOpen self.now.ends link 0 }
-        ensures { (t : Transaction) (u : List ℕ) → AgreesWithin self.now link t u → result ≡ t.marked }
+        ensures { (t : Transaction) (u : List ℕ) → AgreesWithin self.now link t u →
+            result ≡ t.marked }
     {
         let Some(end) = self.state.ends().get(link) else {
             unreachable!()
@@ -137,9 +145,12 @@ impl Node {
     /// The request waits.
     fn queue(&mut self, link: LinkId, used: usize, outs: &mut Outs) -> Result<Outcome, NodeFault>
         requires open { HasOpen self.old.ends link used }
-        requires request { (t : Transaction) (u : List ℕ) → AgreesWithin self.old link t u → CanWait (take used u) }
+        requires request { (t : Transaction) (u : List ℕ) → AgreesWithin self.old link t u →
+            CanWait (take used u) }
         requires begun { outs.old ≡ record no_outs { link = Some link } }
-        ensures { (t : Transaction) (u : List ℕ) (given : Given) → IsAtOpen self.old link t u → Comes (not self.old.core.master) u used within.Queue → WithinStep self.old link t u given self.new (step_of outs.new result) }
+        ensures { (t : Transaction) (u : List ℕ) (given : Given) →
+            IsAtOpen self.old link t u → Comes (not self.old.core.master) u used within.Queue →
+            WithinStep self.old link t u given self.new (step_of outs.new result) }
     {
         if outs.say(&queued()).is_err() {
             return Err(NodeFault::Memory);
@@ -160,7 +171,10 @@ impl Node {
     ) -> Result<Outcome, NodeFault>
         requires open { HasOpen self.old.ends link used }
         requires begun { outs.old ≡ record no_outs { link = Some link } }
-        ensures { (t : Transaction) (u : List ℕ) (given : Given) → IsAtOpen self.old link t u → Comes (not self.old.core.master) u used (within.Mark reply.now) → WithinStep self.old link t u given self.new (step_of outs.new result) }
+        ensures { (t : Transaction) (u : List ℕ) (given : Given) →
+            IsAtOpen self.old link t u →
+            Comes (not self.old.core.master) u used (within.Mark reply.now) →
+            WithinStep self.old link t u given self.new (step_of outs.new result) }
     {
         if outs.say(reply).is_err() {
             return Err(NodeFault::Memory);
@@ -173,7 +187,9 @@ impl Node {
     fn nest(&mut self, link: LinkId, used: usize, outs: &mut Outs) -> Result<Outcome, NodeFault>
         requires open { HasOpen self.old.ends link used }
         requires begun { outs.old ≡ record no_outs { link = Some link } }
-        ensures { (t : Transaction) (u : List ℕ) (given : Given) → IsAtOpen self.old link t u → Comes (not self.old.core.master) u used within.Nest → WithinStep self.old link t u given self.new (step_of outs.new result) }
+        ensures { (t : Transaction) (u : List ℕ) (given : Given) →
+            IsAtOpen self.old link t u → Comes (not self.old.core.master) u used within.Nest →
+            WithinStep self.old link t u given self.new (step_of outs.new result) }
     {
         if outs.say(&nested()).is_err() {
             return Err(NodeFault::Memory);
@@ -192,7 +208,10 @@ impl Node {
     ) -> Result<Outcome, NodeFault>
         requires open { HasOpen self.old.ends link used }
         requires begun { outs.old ≡ record no_outs { link = Some link } }
-        ensures { (t : Transaction) (u : List ℕ) (given : Given) → IsAtOpen self.old link t u → EndsWith (not self.old.core.master) t u used (view reply.now) → WithinStep self.old link t u given self.new (step_of outs.new result) }
+        ensures { (t : Transaction) (u : List ℕ) (given : Given) →
+            IsAtOpen self.old link t u →
+            EndsWith (not self.old.core.master) t u used (view reply.now) →
+            WithinStep self.old link t u given self.new (step_of outs.new result) }
     {
         if outs.say(reply).is_err() {
             return Err(NodeFault::Memory);

@@ -1,12 +1,12 @@
 // A node that dials another, or itself.
-ghost use Rattle.mr_seen.specs.Worlds.{IsWorld};
+ghost use Rattle.law_refinement.specs.Worlds.{IsWorld};
 ghost use Rattle.mr_world.specs.Connecting.{BothRun, DialCall};
 
 use crate::parts::Parts;
 use crate::refusal::Refusal;
-use mr_carrying::{Link, Way};
-use mr_follow::Follower;
+use mr_follower::Follower;
 use mr_node::NodeFault;
+use mr_world_parts::{Link, Way};
 use std::alloc::Global;
 use std::hash::RandomState;
 

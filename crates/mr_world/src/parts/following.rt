@@ -1,13 +1,13 @@
 // A step of the node that follows by a link, at that link.
-ghost use Rattle.mr_seen.specs.Worlds.{IsWorld};
+ghost use Rattle.law_refinement.specs.Worlds.{IsWorld};
 ghost use Rattle.mr_world.specs.Following.{FollowCall};
 
 use crate::parts::Parts;
 use crate::refusal::Refusal;
-use mr_carrying::{give_heard, is_spent};
 use mr_data::Given;
 use mr_node::{NodeFault, Step};
 use mr_repl::ReplId;
+use mr_world_parts::{give_heard, is_spent};
 use std::alloc::Global;
 
 impl Parts {
@@ -34,7 +34,7 @@ impl Parts {
         }
         match self.slots[n].step(name, given, fresh) {
             Ok(Step::Done(outs)) => {
-                let left = self.slots[n].unread(name);
+                let left = self.slots[n].unread_of_master(name);
                 let heard = give_heard(alloc, &mut self.slots[n], &mut self.links[l], left, &outs);
                 if heard.is_err() {
                     self.slots[n].fail();

@@ -1,5 +1,5 @@
 // Bytes that come at the node that dialled.
-ghost use Rattle.mr_seen.specs.Worlds.{IsWorld};
+ghost use Rattle.law_refinement.specs.Worlds.{IsWorld};
 ghost use Rattle.mr_world.specs.Hearing.{ListenCall};
 
 use crate::parts::Parts;

@@ -1,6 +1,6 @@
 // Bytes that come at a node, and ends that a node closes.
 ghost use Rattle.std.specs.Prelude.{IfNone, IfSome};
-ghost use Rattle.mr_seen.specs.Worlds.{IsWorld};
+ghost use Rattle.law_refinement.specs.Worlds.{IsWorld};
 ghost use Rattle.mr_world.specs.Linking.{DeliverCall, DropCall, IsDialler, NoneFollows};
 
 use crate::parts::Parts;

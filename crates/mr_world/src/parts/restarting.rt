@@ -1,13 +1,13 @@
 // A node that begins anew with what a file holds.
 ghost use Rattle.std.specs.Prelude.{◌≡◌, map};
-ghost use Rattle.mr_carrying.specs.AtLink.{shut_at};
+ghost use Rattle.mr_world_parts.specs.AtLink.{shut_at};
 ghost use Rattle.mr_world.specs.Restarting.{RestartCall};
 
 use crate::parts::Parts;
 use crate::refusal::Refusal;
-use mr_carrying::{BookEntry, Link, Slot, is_spent};
 use mr_node::Config;
 use mr_repl::ReplId;
+use mr_world_parts::{BookEntry, Link, Slot, is_spent};
 use std::alloc::Global;
 use std::hash::RandomState;
 

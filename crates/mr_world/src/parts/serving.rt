@@ -1,19 +1,19 @@
 // Steps of a node at a link that it serves.
 ghost use Rattle.std.specs.Prelude.{◌≡◌, ◌<◌, Some, false, length, slice_get};
-ghost use Rattle.mr_seen.specs.State.{Link as LinkState, Slot as SlotState};
-ghost use Rattle.mr_seen.specs.Worlds.{IsWorld};
-ghost use Rattle.mr_carrying.specs.AtNode.{is_spent};
-ghost use Rattle.mr_carrying.specs.Answering.{IsBehind, IsServing};
+ghost use Rattle.law_refinement.specs.State.{Link as LinkState, Slot as SlotState};
+ghost use Rattle.law_refinement.specs.Worlds.{IsWorld};
+ghost use Rattle.mr_world_parts.specs.AtNode.{is_spent};
+ghost use Rattle.mr_world_parts.specs.Answering.{IsBehind, IsServing};
 ghost use Rattle.mr_world.specs.Serving.{IsCarried, StepCall};
 
 use crate::parts::Parts;
 use crate::refusal::Refusal;
-use mr_carrying::{give_step, is_spent};
 use mr_data::Given;
 use mr_links::LinkId;
 use mr_node::{NodeFault, Step};
-use mr_outs::Outs;
+use mr_node_output::Outs;
 use mr_repl::ReplId;
+use mr_world_parts::{give_step, is_spent};
 use std::alloc::Global;
 
 impl Parts {
@@ -90,7 +90,9 @@ impl Parts {
     )
         requires node { n < length self.old.slots }
         requires link { l < length self.old.links }
-        requires behind { (s : SlotState) (k : LinkState) → slice_get self.old.slots n ≡ Some s → slice_get self.old.links l ≡ Some k → IsBehind s.node k.name outs.now }
+        requires behind { (s : SlotState) (k : LinkState) →
+            slice_get self.old.slots n ≡ Some s → slice_get self.old.links l ≡ Some k →
+            IsBehind s.node k.name outs.now }
         ensures { IsCarried self.old n l id offset outs.now self.new }
     {
         let carried = give_step(

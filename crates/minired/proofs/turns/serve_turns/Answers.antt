@@ -10,7 +10,7 @@ returns-in_err-told-clause-went g c =
     serves_behind (g.S.Source.drawn c.loop.source) (stage c.loop.node c.loop.links (g.W.Wire.links c.loop.wire) (g.W.Wire.failures c.loop.wire) (g.F.LogFile.told c.loop.log.file) (g.F.LogFile.synced c.loop.log.file)) c.loop.log.mode c.args.log.now.mode c.args.turns c.loop.counter c.from_residual.result why told c.loop.invariant.1 (omega arith) c.loop.invariant.0 c.in_err-told.ensures.went
 
 pub loop-preserved : goal.loop-preserved
-loop-preserved g c = (turned_on (g.S.Source.drawn c.args.source.now) (stage c.args.node.now c.args.links.now (g.W.Wire.links c.args.wire.now) (g.W.Wire.failures c.args.wire.now) (g.F.LogFile.told c.args.log.now.file) (g.F.LogFile.synced c.args.log.now.file)) c.loop.counter _ (omega arith) c.loop.invariant.0 (has_turned c.loop.log.mode c.args.log.now.mode c.loop.invariant.1 c.in_ok-told.ensures.went c.if-told.false), c.turn.ensures.mode ∙ c.loop.invariant.1, c.in_ok-told.ensures.written, λ q. c.in_ok-told.ensures.quiet (c.loop.invariant.3 q), sym c.in_ok-told.ensures.went.halted ∙ c.if-told.false, c.in_ok-told.ensures.up)
+loop-preserved g c = (turned_on (g.S.Source.drawn c.args.source.now) (stage c.args.node.now c.args.links.now (g.W.Wire.links c.args.wire.now) (g.W.Wire.failures c.args.wire.now) (g.F.LogFile.told c.args.log.now.file) (g.F.LogFile.synced c.args.log.now.file)) c.loop.counter _ (omega arith) c.loop.invariant.0 (has_turned c.loop.log.mode c.args.log.now.mode c.loop.invariant.1 c.in_ok-told.ensures.went c.if-told.false), c.turn_and_look.ensures.mode ∙ c.loop.invariant.1, c.in_ok-told.ensures.written, λ q. c.in_ok-told.ensures.quiet (c.loop.invariant.3 q), sym c.in_ok-told.ensures.went.halted ∙ c.if-told.false, c.in_ok-told.ensures.up)
 
 pub returns-then-told-clause-went : goal.returns-then-told-clause-went
 returns-then-told-clause-went g c = serves_halted c.args.turns c.loop.counter (omega arith) c.loop.invariant.0 (has_turned c.loop.log.mode c.args.log.now.mode c.loop.invariant.1 c.in_ok-told.ensures.went c.if-told.true)

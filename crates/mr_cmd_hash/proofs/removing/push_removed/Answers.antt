@@ -6,8 +6,8 @@ use Rattle.std.proofs.lemmas.List.Sums.{length-filter, count_by-le-length}
 use Rattle.mr_map.specs.Bytes.{Bytes}
 use Rattle.mr_effect.specs.declared.effect.Effect.{Effect}
 use Rattle.mr_effect.specs.declared.effect.Effect.TheVariants as made
-use Rattle.mr_entries.specs.Cuts.{cut}
-use Rattle.mr_room.specs.Groups.{TakesItems}
+use Rattle.mr_keyspace.specs.Cuts.{cut}
+use Rattle.mr_cmd_shared.specs.Groups.{TakesItems}
 use Rattle.mr_cmd_hash.proofs.Pushing.{pushing_starts, pushing_goes, pushed_new, pushed_effects, filter_passing, taken_passing}
 use Rattle.mr_cmd_hash.proofs.removing.push_removed.Goals as goal
 

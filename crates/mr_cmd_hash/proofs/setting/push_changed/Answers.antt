@@ -6,7 +6,7 @@ use Rattle.mr_map.specs.Bytes.{Bytes}
 use Rattle.mr_effect.specs.declared.effect.Effect.{Effect}
 use Rattle.mr_effect.specs.declared.effect.Effect.TheVariants as made
 use Rattle.mr_cmd_hash.specs.Hashes.{is_value}
-use Rattle.mr_room.specs.Groups.{TakesItems}
+use Rattle.mr_cmd_shared.specs.Groups.{TakesItems}
 use Rattle.mr_cmd_hash.proofs.Pushing.{pushing_starts, pushing_goes, pushed_new, is_some-copied}
 use Rattle.mr_cmd_hash.proofs.setting.push_changed.Goals as goal
 

@@ -1,6 +1,6 @@
 use Rattle.std.proofs.Common.{◌∙◌, ap, sym, option_copied}
 use Rattle.std.specs.Prelude.{not}
-use Rattle.mr_room.proofs.PlanLemmas.{if_ok}
+use Rattle.mr_cmd_shared.proofs.PlanLemmas.{if_ok}
 use Rattle.mr_cmd_key.specs.Listing.{bulks}
 use Rattle.mr_cmd_key.proofs.Listed.{listed_all}
 use Rattle.mr_cmd_key.proofs.listing.list_keys.Goals as goal

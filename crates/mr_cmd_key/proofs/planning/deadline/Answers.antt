@@ -1,7 +1,7 @@
 use Rattle.std.proofs.Common.{rules, ◌≡◌, ◌∙◌, ap, refl, option_copied, FitsSigned, w64}
 use Rattle.std.proofs.lemmas.Int.{to_z-of_z}
 use Rattle.mr_resp.specs.Replies as reply
-use Rattle.mr_room.proofs.PlanLemmas.{on_key_plans, takes_reply}
+use Rattle.mr_cmd_shared.proofs.PlanLemmas.{on_key_plans, takes_reply}
 use Rattle.mr_cmd_key.specs.Expiring.{deadline_answer, answered_in}
 use Rattle.mr_cmd_key.proofs.Deadlines.{live_lifetime}
 use Rattle.mr_cmd_key.proofs.planning.deadline.Goals as goal

@@ -2,8 +2,8 @@ use Rattle.std.proofs.Common.{rules, option_copied, IfOk}
 use Rattle.std.proofs.lemmas.Int.{to_z-of_z}
 use Rattle.mr_resp.specs.ReplyView.{view}
 use Rattle.mr_expiry.specs.Expiry.{deadline_at}
-use Rattle.mr_room.specs.Answered.{Takes}
-use Rattle.mr_room.proofs.PlanLemmas.{on_key_plans_if_ok}
+use Rattle.mr_cmd_shared.specs.Answered.{Takes}
+use Rattle.mr_cmd_shared.proofs.PlanLemmas.{on_key_plans_if_ok}
 use Rattle.mr_cmd_key.specs.Expiring.{expire_answer}
 use Rattle.mr_cmd_key.proofs.planning.expire.Goals as goal
 

@@ -1,5 +1,5 @@
 use Rattle.std.proofs.Common.{refl}
-use Rattle.mr_room.proofs.PlanLemmas.{on_key_plans, takes_reply}
+use Rattle.mr_cmd_shared.proofs.PlanLemmas.{on_key_plans, takes_reply}
 use Rattle.mr_cmd_key.specs.Kinds.{type_answer}
 use Rattle.mr_cmd_key.proofs.planning.key_type.Goals as goal
 

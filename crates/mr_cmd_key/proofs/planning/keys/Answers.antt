@@ -1,5 +1,5 @@
 use Rattle.std.proofs.Common.{◌∙◌, ap, sym, Some, None}
-use Rattle.mr_room.proofs.PlanLemmas.{if_ok}
+use Rattle.mr_cmd_shared.proofs.PlanLemmas.{if_ok}
 use Rattle.mr_cmd_key.specs.Listing.{bulks, listed_at}
 use Rattle.mr_cmd_key.proofs.Listed.{listed_seen}
 use Rattle.mr_cmd_key.proofs.planning.keys.Goals as goal

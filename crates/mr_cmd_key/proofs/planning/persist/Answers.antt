@@ -1,4 +1,4 @@
-use Rattle.mr_room.proofs.PlanLemmas.{on_key_plans_if_ok}
+use Rattle.mr_cmd_shared.proofs.PlanLemmas.{on_key_plans_if_ok}
 use Rattle.mr_cmd_key.specs.Expiring.{persist_answer}
 use Rattle.mr_cmd_key.proofs.planning.persist.Goals as goal
 

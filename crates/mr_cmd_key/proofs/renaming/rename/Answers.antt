@@ -1,4 +1,4 @@
-use Rattle.mr_room.proofs.PlanLemmas.{if_ok}
+use Rattle.mr_cmd_shared.proofs.PlanLemmas.{if_ok}
 use Rattle.mr_cmd_key.specs.Renaming.{renamed}
 use Rattle.mr_cmd_key.proofs.Renamings.{both_plans, gives_renamed}
 use Rattle.mr_cmd_key.proofs.renaming.rename.Goals as goal

@@ -1,7 +1,7 @@
 use Rattle.std.proofs.Common.{rules, ◌≡◌, ◌∙◌, ap, sym, Some, None, option_copied}
 use Rattle.mr_resp.specs.ReplyView.{view}
-use Rattle.mr_entries.specs.Steps.{lists, held}
-use Rattle.mr_room.proofs.PlanLemmas.{key_plan}
+use Rattle.mr_keyspace.specs.Steps.{lists, held}
+use Rattle.mr_cmd_shared.proofs.PlanLemmas.{key_plan}
 use Rattle.mr_cmd_list.specs.declared.list_ask.ListAsk.TheVariants.{LMove}
 use Rattle.mr_cmd_list.specs.Lists.{found}
 use Rattle.mr_cmd_list.specs.Moves.{rotate_answer}

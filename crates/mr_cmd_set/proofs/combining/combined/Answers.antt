@@ -4,7 +4,7 @@ use Rattle.std.proofs.lemmas.List.{nil_from_length}
 use Rattle.mr_resp.specs.ReplyView.{views}
 use Rattle.mr_resp.specs.Replies as reply
 use Rattle.mr_resp.proofs.ViewLemmas.{view-Array}
-use Rattle.mr_room.proofs.PlanLemmas.{if_ok}
+use Rattle.mr_cmd_shared.proofs.PlanLemmas.{if_ok}
 use Rattle.mr_cmd_set.specs.Sets.{bulks}
 use Rattle.mr_cmd_set.specs.Grouping.{members_of}
 use Rattle.mr_cmd_set.specs.Combining.{combined}

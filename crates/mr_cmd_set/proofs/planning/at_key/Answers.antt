@@ -1,5 +1,5 @@
 use Rattle.std.proofs.Common.{rules, option_copied}
-use Rattle.mr_room.proofs.PlanLemmas.{if_ok}
+use Rattle.mr_cmd_shared.proofs.PlanLemmas.{if_ok}
 use Rattle.mr_cmd_set.specs.SetCommands.{change}
 use Rattle.mr_cmd_set.proofs.AnswerLemmas.{plans_wrong, plans_made}
 use Rattle.mr_cmd_set.proofs.planning.at_key.Goals as goal

@@ -1,4 +1,4 @@
-use Rattle.mr_room.proofs.PlanLemmas.{is_plan}
+use Rattle.mr_cmd_shared.proofs.PlanLemmas.{is_plan}
 use Rattle.mr_cmd_set.specs.SetCommands.{command}
 use Rattle.mr_cmd_set.proofs.planning.planned.Goals as goal
 

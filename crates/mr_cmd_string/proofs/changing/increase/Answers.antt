@@ -6,7 +6,7 @@ use Rattle.mr_bytes.specs.Number.{number_of}
 use Rattle.mr_resp.specs.Replies as reply
 use Rattle.mr_resp.specs.ReplyView.{view}
 use Rattle.mr_effect.specs.declared.effect.Effect.TheVariants as effect
-use Rattle.mr_entries.specs.Steps.{texts as strings, held}
+use Rattle.mr_keyspace.specs.Steps.{texts as strings, held}
 use Rattle.mr_cmd_string.proofs.WritingOver.{increased, is_i64-fits}
 use Rattle.mr_cmd_string.proofs.changing.increase.Goals as goal
 

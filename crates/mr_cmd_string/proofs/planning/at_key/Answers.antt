@@ -1,4 +1,4 @@
-use Rattle.mr_room.proofs.PlanLemmas.{on_key_plans_if_ok}
+use Rattle.mr_cmd_shared.proofs.PlanLemmas.{on_key_plans_if_ok}
 use Rattle.mr_cmd_string.specs.OneKey.{answer_of}
 use Rattle.mr_cmd_string.proofs.planning.at_key.Goals as goal
 

@@ -1,4 +1,4 @@
-use Rattle.mr_room.proofs.PlanLemmas.{is_plan}
+use Rattle.mr_cmd_shared.proofs.PlanLemmas.{is_plan}
 use Rattle.mr_cmd_string.specs.Commands.{command}
 use Rattle.mr_cmd_string.proofs.planning.planned.Goals as goal
 

@@ -1,6 +1,6 @@
 use Rattle.std.proofs.Common.{◌≡◌, ◌∙◌, ◌++◌, ap, sym, rules}
 use Rattle.std.specs.FinMap.{entries}
-use Rattle.mr_room.specs.Keys.{dels, expired}
+use Rattle.mr_cmd_shared.specs.Keys.{dels, expired}
 use Rattle.mr_cmd_string.specs.SettingAll.{names, last_texts, set_effects}
 use Rattle.mr_cmd_string.proofs.SettingAllPlans.{some_there, none_there, none_of_pairs}
 use Rattle.mr_cmd_string.proofs.setting_all.msetnx.Goals as goal

@@ -1,4 +1,4 @@
-use Rattle.mr_room.proofs.PlanLemmas.{if_ok}
+use Rattle.mr_cmd_shared.proofs.PlanLemmas.{if_ok}
 use Rattle.mr_cmd_string.proofs.PlanLemmas.{texts_plans}
 use Rattle.mr_cmd_string.proofs.texts.mget.Goals as goal
 

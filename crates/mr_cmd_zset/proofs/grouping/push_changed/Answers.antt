@@ -2,7 +2,7 @@ use Rattle.std.proofs.Common.{◌∙◌, ap, ◌++◌, map, sym}
 use Rattle.std.specs.FinMap.{entries}
 use Rattle.mr_map.specs.Bytes.{Bytes}
 use Rattle.mr_effect.specs.declared.effect.Effect.TheVariants as made
-use Rattle.mr_entries.specs.Cuts.{cut}
+use Rattle.mr_keyspace.specs.Cuts.{cut}
 use Rattle.mr_cmd_zset.proofs.Differences.{alone, changed_alones}
 use Rattle.mr_cmd_zset.proofs.Pushing.{pushing_ends}
 use Rattle.mr_cmd_zset.proofs.grouping.push_changed.Goals as goal

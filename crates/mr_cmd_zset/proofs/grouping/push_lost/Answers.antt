@@ -2,7 +2,7 @@ use Rattle.std.proofs.Common.{◌∙◌, ◌∷◌, ◌++◌, [], List, ap, map}
 use Rattle.std.specs.Borrow.{Bor}
 use Rattle.mr_map.specs.Bytes.{Bytes}
 use Rattle.mr_effect.specs.declared.effect.Effect.TheVariants as made
-use Rattle.mr_entries.specs.Cuts.{cut}
+use Rattle.mr_keyspace.specs.Cuts.{cut}
 use Rattle.mr_cmd_zset.proofs.Pushing.{pushing_next, pushing_done, flat_names}
 use Rattle.mr_cmd_zset.proofs.grouping.push_lost.Goals as goal
 

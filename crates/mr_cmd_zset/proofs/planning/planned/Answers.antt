@@ -2,9 +2,9 @@ use Rattle.std.proofs.Common.{rules, ◌≡◌, ◌∷◌, [], ◌++◌, ◌∙�
 use Rattle.std.specs.FinMap.{get}
 use Rattle.mr_resp.specs.ReplyView.{view}
 use Rattle.mr_data.specs.Dataset.{live}
-use Rattle.mr_entries.specs.Steps.{sorted_sets, held}
-use Rattle.mr_room.specs.Keys.{dels, expired}
-use Rattle.mr_room.proofs.PlanLemmas.{key_plan}
+use Rattle.mr_keyspace.specs.Steps.{sorted_sets, held}
+use Rattle.mr_cmd_shared.specs.Keys.{dels, expired}
+use Rattle.mr_cmd_shared.proofs.PlanLemmas.{key_plan}
 use Rattle.mr_cmd_zset.specs.Commands.{key_of, answer_of}
 use Rattle.mr_cmd_zset.proofs.AnswerLemmas.{takes_wrong, takes_made}
 use Rattle.mr_cmd_zset.proofs.planning.planned.Goals as goal

@@ -1,6 +1,6 @@
 use Rattle.std.proofs.Common.{◌≡◌, map, take}
 use Rattle.mr_zset.specs.Pairs.{shown}
-use Rattle.mr_room.specs.Taken.{texts}
+use Rattle.mr_cmd_shared.specs.Taken.{texts}
 use Rattle.mr_cmd_zset.specs.Removing.{members_of}
 use Rattle.mr_cmd_zset.proofs.removing.members_of.Given as goal
 

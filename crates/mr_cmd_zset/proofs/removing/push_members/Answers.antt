@@ -4,8 +4,8 @@ use Rattle.std.proofs.lemmas.List.{length-map}
 use Rattle.std.specs.FinMap.{keys}
 use Rattle.mr_map.specs.Bytes.{Bytes}
 use Rattle.mr_effect.specs.declared.effect.Effect.TheVariants as made
-use Rattle.mr_entries.specs.Cuts.{cut}
-use Rattle.mr_room.specs.Taken.{texts}
+use Rattle.mr_keyspace.specs.Cuts.{cut}
+use Rattle.mr_cmd_shared.specs.Taken.{texts}
 use Rattle.mr_zset.specs.Pairs.{shown}
 use Rattle.mr_cmd_zset.specs.Removing.{members_of, as_set}
 use Rattle.mr_cmd_zset.proofs.Removals.{one_pair, one_key, one_member, len_keys}

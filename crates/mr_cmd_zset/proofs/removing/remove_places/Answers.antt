@@ -3,7 +3,7 @@ use Rattle.std.specs.FinMap.{keys, len}
 use Rattle.mr_map.specs.Bytes.{Bytes}
 use Rattle.mr_zset.specs.Pairs.{pairs_of}
 use Rattle.mr_effect.specs.declared.effect.Effect.TheVariants as made
-use Rattle.mr_entries.specs.Cuts.{cut}
+use Rattle.mr_keyspace.specs.Cuts.{cut}
 use Rattle.mr_cmd_zset.specs.Scores.{number}
 use Rattle.mr_cmd_zset.specs.Removing.{as_set, members_of}
 use Rattle.mr_cmd_zset.proofs.Wholes.{all_counted, all_keys, all_places}

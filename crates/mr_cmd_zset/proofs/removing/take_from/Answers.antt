@@ -3,7 +3,7 @@ use Rattle.std.specs.FinMap.{keys, len}
 use Rattle.std.proofs.lemmas.List.{length-map}
 use Rattle.mr_map.specs.Bytes.{Bytes}
 use Rattle.mr_effect.specs.declared.effect.Effect.TheVariants as made
-use Rattle.mr_entries.specs.Cuts.{cut}
+use Rattle.mr_keyspace.specs.Cuts.{cut}
 use Rattle.mr_zset.specs.Pairs.{shown}
 use Rattle.mr_cmd_zset.specs.Scores.{pairs_in}
 use Rattle.mr_cmd_zset.specs.Removing.{members_of, as_set}

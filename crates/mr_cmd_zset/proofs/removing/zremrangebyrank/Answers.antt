@@ -5,7 +5,7 @@ use Rattle.mr_map.specs.Bytes.{Bytes}
 use Rattle.mr_bytes.specs.Window.{window_of, windowed}
 use Rattle.mr_zset.specs.Pairs.{pairs_of, shown}
 use Rattle.mr_effect.specs.declared.effect.Effect.TheVariants as made
-use Rattle.mr_entries.specs.Cuts.{cut}
+use Rattle.mr_keyspace.specs.Cuts.{cut}
 use Rattle.mr_cmd_zset.specs.Scores.{number}
 use Rattle.mr_cmd_zset.proofs.Removals.{one_key, one_length, pairs_made, windowed_in, pairs_are_in}
 use Rattle.mr_cmd_zset.proofs.removing.zremrangebyrank.Goals as goal

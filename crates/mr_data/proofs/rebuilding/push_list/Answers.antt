@@ -1,7 +1,7 @@
 use Rattle.std.proofs.Common.{rules, ◌≡◌, ℕ, List, [], ◌∷◌, ◌++◌, length}
 use Rattle.mr_bytes.specs.declared.ends.End.TheVariants.{Right}
 use Rattle.mr_effect.specs.declared.effect.Effect.TheVariants as made
-use Rattle.mr_entries.specs.Cuts.{most_items}
+use Rattle.mr_keyspace.specs.Cuts.{most_items}
 use Rattle.mr_data.proofs.Grouping.{writing_flushes}
 use Rattle.mr_data.proofs.rebuilding.push_list.Goals as goal
 

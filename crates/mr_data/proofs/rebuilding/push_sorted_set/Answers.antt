@@ -2,7 +2,7 @@ use Rattle.std.proofs.Common.{rules, ◌≡◌, ℕ, ℤ, List, [], ◌∷◌, �
 use Rattle.std.specs.FinMap.{entries}
 use Rattle.std.specs.Prelude.{◌≢◌}
 use Rattle.mr_effect.specs.declared.effect.Effect.TheVariants as made
-use Rattle.mr_entries.specs.Cuts.{most_items}
+use Rattle.mr_keyspace.specs.Cuts.{most_items}
 use Rattle.mr_data.proofs.Grouping.{writing_flushes, writing_goes}
 use Rattle.mr_data.proofs.rebuilding.push_sorted_set.Goals as goal
 

@@ -5,6 +5,8 @@ use Rattle.mr_resp.specs.Usual.{commands}
 use Rattle.mr_resp.specs.declared.request.Scan.{Scan}
 use Rattle.mr_groups.specs.Parts.{ReadsWords}
 use Rattle.mr_groups.proofs.Readings.{parts_read, doomed_read}
+use Rattle.mr_replay.proofs.Knowing.{spent_by}
+use Rattle.mr_groups.proofs.Knowing.{fresh_part}
 use Rattle.mr_groups.proofs.part.next_part.Goals as goal
 
 pub returns-in-Ok-Whole-clause-found : goal.returns-in-Ok-Whole-clause-found
@@ -17,3 +19,13 @@ returns-in-Ok-Whole-clause-found c =
 pub returns-in-Ok-Bad-clause-found : goal.returns-in-Ok-Bad-clause-found
 returns-in-Ok-Bad-clause-found c =
     doomed_read c.args.bytes.now _ c.args.effects.now c.args.effects.now (subst (λ (s : Scan). ReadsCommand commands c.args.bytes.now s) c.in-Ok-Bad.field-0-is c.in-Ok-Bad.ensures.found)
+
+pub returns-in-Ok-Whole-clause-after : goal.returns-in-Ok-Whole-clause-after
+returns-in-Ok-Whole-clause-after c =
+    let progress = c.next_command_from.new.progress in
+    fresh_part progress c.part_of.result (spent_by progress c.in-Ok-Whole.field-0 _ c.in-Ok-Whole.field-0-is (λ never. never) c.in-Ok-Whole.ensures.spent)
+
+pub returns-in-Ok-Bad-clause-after : goal.returns-in-Ok-Bad-clause-after
+returns-in-Ok-Bad-clause-after c =
+    let progress = c.next_command_from.new.progress in
+    spent_by progress c.in-Ok-Bad.field-0 _ c.in-Ok-Bad.field-0-is (λ never. never) c.in-Ok-Bad.ensures.spent

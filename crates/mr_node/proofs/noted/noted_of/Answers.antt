@@ -3,7 +3,7 @@ use Rattle.std.specs.Cow.{cow_slice_items}
 use Rattle.mr_resp.specs.Scans.{BeginsWithRequest}
 use Rattle.mr_resp.specs.declared.request.Scan.TheVariants.{Whole, Bad}
 use Rattle.mr_resp.specs.Resumed.{Agrees}
-use Rattle.mr_rows.specs.ReplicaRows.{IsUnwanted}
+use Rattle.mr_node_spec.specs.ReplicaRows.{IsUnwanted}
 use Rattle.mr_node.specs.Noting.{AcknowledgesNothing, BeginsWithWords}
 use Rattle.mr_node.proofs.Noting.{begins_with_words}
 use Rattle.mr_node.proofs.Reading.{agrees_now, asked_at, read_as, in_any_case}

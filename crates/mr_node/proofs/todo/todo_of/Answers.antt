@@ -7,7 +7,7 @@ use Rattle.mr_resp.specs.Scans.{BeginsWithRequest}
 use Rattle.mr_resp.specs.declared.request.Scan.TheVariants.{Whole}
 use Rattle.mr_resp.specs.Resumed.{Agrees}
 use Rattle.mr_resp.specs.Usual.{usual-word, usual-words, commands-words}
-use Rattle.mr_rows.specs.ClientRows.{MayLack}
+use Rattle.mr_node_spec.specs.ClientRows.{MayLack}
 use Rattle.mr_node.specs.Reading.{IsDone}
 use Rattle.mr_node.proofs.Reading.{agrees_now, all_fit, asked_at, read_as, done_all, in_any_case, may_lack}
 use Rattle.mr_node.proofs.todo.todo_of.Goals as goal

@@ -4,7 +4,7 @@ use Rattle.mr_resp.specs.Resumed.{Agrees}
 use Rattle.mr_resp.specs.Scans.{BeginsWithRequest}
 use Rattle.mr_resp.specs.declared.request.Scan.TheVariants.{Whole}
 use Rattle.mr_commands.specs.Transactions.{IsWithin, coming}
-use Rattle.mr_rows.specs.ClientRows.{MayLack}
+use Rattle.mr_node_spec.specs.ClientRows.{MayLack}
 use Rattle.mr_node.proofs.Reading.{agrees_now, asked_at, in_any_case, may_lack, read_as}
 use Rattle.mr_node.proofs.within.todo_within.Goals as goal
 

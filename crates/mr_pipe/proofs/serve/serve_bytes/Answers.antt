@@ -1,5 +1,5 @@
 use Rattle.std.proofs.Common.{rules, ◌≡◌, ◌++◌, Err, sym, subst}
-use Rattle.mr_rows.specs.LinkRows.{Feeds}
+use Rattle.mr_node_spec.specs.LinkRows.{Feeds}
 use Rattle.mr_pipe.specs.Outside.{outside}
 use Rattle.mr_pipe.specs.State.{Stands}
 use Rattle.mr_pipe.specs.Serving.{IsDrained}

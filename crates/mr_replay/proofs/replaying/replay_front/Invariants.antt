@@ -1,4 +1,5 @@
-use Rattle.std.proofs.Common.{length, take, ◌-◌, ◌≤◌}
+use Rattle.std.proofs.Common.{length, take, drop, ◌-◌, ◌≤◌}
+use Rattle.mr_resp.specs.Resumed.{MayAgree}
 use Rattle.mr_replay.specs.Effects.{Leads}
 use Rattle.mr_replay.proofs.replaying.replay_front.Given as goal
 
@@ -7,6 +8,7 @@ abbrev pub invariant-texts : goal.invariant-texts
 invariant-texts l = record {
   within : l.used ≤ length l.bytes;
   led : Leads (take l.used l.bytes) l.fn.dataset l.dataset;
+  known : MayAgree l.progress (drop l.used l.bytes);
 }
 
 abbrev pub decreases-texts : goal.decreases-texts

@@ -1,5 +1,5 @@
 use Rattle.std.proofs.Common.{◌≡◌}
-use Rattle.mr_entries.specs.Collections.{with_members}
+use Rattle.mr_keyspace.specs.Collections.{with_members}
 use Rattle.mr_cmd_set.specs.Members.{joined}
 use Rattle.mr_cmd_set.proofs.combining.Joined.join.Given as goal
 

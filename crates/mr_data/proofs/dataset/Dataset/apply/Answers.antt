@@ -2,7 +2,7 @@ use Rattle.std.proofs.Common.{rules, ◌≡◌, ◌&&◌, true, Some, None, Err,
 use Rattle.std.specs.Prelude.{OnOk, ◌↔◌}
 use Rattle.mr_effect.specs.Effects.{has_spelling, words_fit}
 use Rattle.mr_data.specs.Meaning.{apply}
-use Rattle.mr_entries.specs.declared.fault.ApplyFault.TheVariants.{Refused}
+use Rattle.mr_keyspace.specs.declared.fault.ApplyFault.TheVariants.{Refused}
 use Rattle.mr_data.proofs.Answering.{is_ok, is_refused, is_unchanged, is_dataset}
 use Rattle.mr_data.proofs.dataset.Dataset.apply.Goals as goal
 

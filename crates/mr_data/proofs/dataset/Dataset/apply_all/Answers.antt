@@ -2,7 +2,7 @@ use Rattle.std.proofs.Common.{◌≡◌, List, [], ◌∷◌, ◌++◌, Some, ap
 use Rattle.std.specs.List.{AllByRecursion}
 use Rattle.std.specs.Option.{option_and_then}
 use Rattle.mr_effect.specs.declared.effect.Effect.{Effect}
-use Rattle.mr_entries.specs.Changes.{NeedsNoMemory}
+use Rattle.mr_keyspace.specs.Changes.{NeedsNoMemory}
 use Rattle.mr_data.specs.Meaning.{apply, apply_all}
 use Rattle.mr_data.proofs.Folding.{apply_all_more}
 use Rattle.mr_data.proofs.dataset.Dataset.apply_all.Goals as goal

@@ -1,6 +1,6 @@
 use Rattle.std.proofs.Common.{◌≡◌, ◌++◌, Some}
 use Rattle.std.specs.List.{AllByRecursion}
-use Rattle.mr_entries.specs.Changes.{NeedsNoMemory}
+use Rattle.mr_keyspace.specs.Changes.{NeedsNoMemory}
 use Rattle.mr_data.specs.Meaning.{apply_all}
 use Rattle.mr_data.proofs.dataset.Dataset.apply_all.Given as goal
 

@@ -1,8 +1,17 @@
 use Rattle.std.proofs.Common.{rules, ◌≡◌, ◌++◌, List, ℕ, drop, subst, sym}
 use Rattle.mr_groups.specs.Replaying.{IsReadUpTo, IsRest}
 use Rattle.mr_groups.specs.Fronts.{AppliesFront}
+use Rattle.mr_groups.specs.Readers.{HasRead}
 use Rattle.mr_groups.proofs.Going.{is_rest, reads_on}
+use Rattle.mr_groups.proofs.Resuming as resuming
 use Rattle.mr_groups.proofs.replay.GroupReplay.feed.Goals as goal
+
+-- what was read of the bytes so far was read of them with the piece
+pub apply_front-applied-requires : goal.apply_front-applied-requires
+apply_front-applied-requires c =
+    let unread = c.args.self.now.unread.items in
+    let all : unread ++ c.args.piece.now ≡ c.as_slice.result.now = search rules in
+    subst (HasRead c.args.self.now.reader) all (resuming.reads_on c.args.self.now.reader unread c.args.piece.now c.requires)
 
 pub returns-clause-read : goal.returns-clause-read
 returns-clause-read c = λ bytes read.

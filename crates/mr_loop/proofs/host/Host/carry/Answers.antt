@@ -1,6 +1,6 @@
 use Rattle.std.proofs.Common.{ap, refl}
-use Rattle.mr_outs.specs.Outs.{follow, grow, halt, use_id}
-use Rattle.mr_outs.specs.Listing.{out_view}
+use Rattle.mr_node_output.specs.Outs.{follow, grow, halt, use_id}
+use Rattle.mr_node_output.specs.Listing.{out_view}
 use Rattle.mr_loop.specs.Stage.{halting}
 use Rattle.mr_loop.specs.Hosts.{stage_in}
 use Rattle.mr_loop.proofs.Outs.{appended_as, closed_as, one_out, own_out, sent_as}

@@ -1,5 +1,5 @@
 use Rattle.std.proofs.Common.{rules, ◌≡◌, [], ◌∷◌, Err, ap, sym, subst}
-use Rattle.mr_outs.specs.Outs.{outs_of, send}
+use Rattle.mr_node_output.specs.Outs.{outs_of, send}
 use Rattle.mr_loop.specs.Carrying.{CarriesAs}
 use Rattle.mr_loop.specs.Hosts.{stage_in}
 use Rattle.mr_loop.proofs.Outs.{fails_so_far, last_sent, left_as, rest_so_far}

@@ -1,5 +1,5 @@
 use Rattle.std.proofs.Common.{[], ap, sym, ◌∙◌}
-use Rattle.mr_outs.specs.Outs.{OutsState, outs_of}
+use Rattle.mr_node_output.specs.Outs.{OutsState, outs_of}
 use Rattle.mr_loop.specs.Hosts.{stage_in}
 use Rattle.mr_loop.proofs.Outs.{first_filed}
 use Rattle.mr_loop.proofs.host.Host.carry_first.Goals as goal

@@ -1,6 +1,6 @@
 use Rattle.std.proofs.Common.{rules, ◌≡◌, ◌∙◌, Err, refl}
-use Rattle.mr_outs.specs.Outs.{outs_of}
-use Rattle.mr_outs.specs.Listing.{out_view}
+use Rattle.mr_node_output.specs.Outs.{outs_of}
+use Rattle.mr_node_output.specs.Listing.{out_view}
 use Rattle.mr_loop.specs.Hosts.{stage_in}
 use Rattle.mr_loop.proofs.Outs.{all_so_far, answers_so_far, none_so_far, one_so_far}
 use Rattle.mr_loop.proofs.Same.{same_here, same_on}

@@ -1,5 +1,5 @@
 use Rattle.std.proofs.Common.{◌≡◌}
-use Rattle.mr_outs.specs.Outs.{outs_of}
+use Rattle.mr_node_output.specs.Outs.{outs_of}
 use Rattle.mr_loop.specs.Hosts.{IsSame, moment_in, stage_in}
 use Rattle.mr_loop.specs.Carrying.{SoFar}
 use Rattle.mr_loop.proofs.host.Host.carry_out.Given as goal

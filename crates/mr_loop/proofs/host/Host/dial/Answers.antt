@@ -1,13 +1,16 @@
-use Rattle.std.proofs.Common.{rules, ◌≡◌, refl, subst, sym}
+use Rattle.std.proofs.Common.{rules, ◌≡◌, ap, refl, subst, sym}
 use Rattle.mr_loop.specs.Hosts.{moment_in, stage_in}
 use Rattle.mr_loop.specs.Rows.{misses_dial}
+use Rattle.mr_loop.specs.Stage.{LoopState, stage}
 use Rattle.mr_wire.specs.Wire.{Connects}
 use Rattle.mr_loop.proofs.Arrivals.{failed_row, from_own}
-use Rattle.mr_loop.proofs.Runs.{still_here, still_one}
+use Rattle.mr_loop.proofs.Runs.{stays_still, still_here, still_one}
 use Rattle.mr_loop.proofs.host.Host.dial.Goals as goal
 
 pub returns-then-not-waits-clause-went : goal.returns-then-not-waits-clause-went
-returns-then-not-waits-clause-went g c = still_here _ _
+returns-then-not-waits-clause-went g c =
+    let s = c.args.self.now in
+    stays_still (moment_in g.S.Source.drawn s) (moment_in g.S.Source.drawn s) _ _ (ap (λ (o : LoopState). stage s.node.now o (g.W.Wire.links s.wire.now) (g.W.Wire.failures s.wire.now) (g.F.LogFile.told s.log.now.file) (g.F.LogFile.synced s.log.now.file)) c.note_role.ensures) refl
 
 pub returns-then-not-may_dial-clause-went : goal.returns-then-not-may_dial-clause-went
 returns-then-not-may_dial-clause-went g c = still_here _ _

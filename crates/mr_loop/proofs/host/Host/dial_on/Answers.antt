@@ -2,7 +2,8 @@ use Rattle.std.proofs.Common.{rules, ◌≡◌, ◌≤◌, [], ◌∷◌, Err, a
 use Rattle.mr_node.specs.Calls.{DialRow}
 use Rattle.mr_wire.specs.Wire.{asked_link}
 use Rattle.mr_loop.specs.declared.fault.LoopFault.TheVariants as fault
-use Rattle.mr_loop.specs.Stage.{LoopState, stage}
+use Rattle.mr_loop.specs.declared.lacking.Asked.TheVariants as asked
+use Rattle.mr_loop.specs.Stage.{LoopState, losing, stage}
 use Rattle.mr_loop.specs.Causes.{dials_and_closes, stays, stops_at_open}
 use Rattle.mr_loop.specs.Rows.{misses_dial, stops}
 use Rattle.mr_loop.specs.Hosts.{moment_in}
@@ -48,7 +49,7 @@ returns-in-Err-join-clause-went g c = λ before failed address told came later.
     still_one misses_dial moment moment refl refl refl refl refl refl refl refl (λ ids. refl)
     (lacks_row
     (closed_again before (g.W.Wire.links c.args.self.now.wire.now) (g.W.Wire.links c.close-in-Err-join.new.self) c.args.socket (asked_link came.0) came.2 c.close-in-Err-join.ensures.closed c.close-in-Err-join.ensures.opened c.close-in-Err-join.ensures.sent)
-    (subst (λ k. failed ≤ k) (sym c.close-in-Err-join.ensures.failures) later) (dials_and_closes c.dial.new.self c.in-Ok.link c.in-Ok.outs c.in-Ok.ensures.1 c.sound.ensures c.close.ensures) c.in-Err-join.ensures.err (refl, refl)) refl
+    (subst (λ k. failed ≤ k) (sym c.close-in-Err-join.ensures.failures) later) (dials_and_closes c.dial.new.self c.in-Ok.link c.in-Ok.outs c.in-Ok.ensures.1 c.sound.ensures c.close.ensures) (c.lose.ensures ∙ ap (losing asked.Dial) c.in-Err-join.ensures.err) (refl, refl)) refl
 
 pub returns-in-Err-join-clause-quiet : goal.returns-in-Err-join-clause-quiet
 returns-in-Err-join-clause-quiet g c = λ q. all_is c.close.ensures (closed_all c.in-Ok.link c.dial.new.self (dialled_all c.in-Ok.ensures.1 q))
@@ -72,7 +73,7 @@ returns-in-Err g c =
       went = λ before failed address told came later. still_one misses_dial moment moment refl refl refl refl refl refl refl refl (λ ids. refl)
           (lacks_row
           (closed_again before (g.W.Wire.links c.args.self.now.wire.now) (g.W.Wire.links c.close-in-Err.new.self) c.args.socket (asked_link came.0) came.2 c.close-in-Err.ensures.closed c.close-in-Err.ensures.opened c.close-in-Err.ensures.sent)
-          (subst (λ k. failed ≤ k) (sym c.close-in-Err.ensures.failures) later) (stays same) c.lack.ensures (refl, refl)) refl;
+          (subst (λ k. failed ≤ k) (sym c.close-in-Err.ensures.failures) later) (stays same) c.lose-in-Err.ensures (refl, refl)) refl;
       same = record { node = refl; own = refl; wire = refl; log = refl; source = refl; mode = refl; wait_stays = c.close-in-Err.ensures.waited };
       device = λ wrong. absurd (ok_no_err tt fault.File wrong);
       quiet = λ q. all_is same q;

@@ -10,11 +10,11 @@ use Rattle.mr_resp.specs.Usual.{commands, commands-words}
 use Rattle.mr_resp.proofs.LineEnds.{bytes_cons, bytes_nil}
 use Rattle.mr_resp.proofs.Words.{bytes_append, bytes_bulk, bytes_line}
 use Rattle.mr_groups.proofs.Openings.{open_start}
-use Rattle.mr_follow.specs.State.{FollowState, Agrees as FollowAgrees}
-use Rattle.mr_follow.specs.Rows as follow
-use Rattle.mr_follow.specs.declared.phase.Phase.{Phase}
-use Rattle.mr_follow.specs.declared.phase.Phase.TheVariants.{Ping, Port, Capabilities, Psync, Snapshot, Stream}
-use Rattle.mr_rows.specs.State.{Core, IsNode, NodeState, end_of, shown}
+use Rattle.mr_follower.specs.State.{FollowState, Agrees as FollowAgrees}
+use Rattle.mr_follower.specs.Rows as follow
+use Rattle.mr_follower.specs.declared.phase.Phase.{Phase}
+use Rattle.mr_follower.specs.declared.phase.Phase.TheVariants.{Ping, Port, Capabilities, Psync, Snapshot, Stream}
+use Rattle.mr_node_spec.specs.State.{Core, IsNode, NodeState, end_of, shown}
 use Rattle.mr_node.specs.Calls.{Agreeing, Unreads}
 use Rattle.mr_node.specs.Calls.Agreeing.{client, waiting, replica, master, shut}
 use Rattle.mr_loop.specs.Quiet.{AllWait, Awaits, IsStill, OthersWait}

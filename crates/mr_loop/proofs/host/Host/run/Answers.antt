@@ -1,5 +1,5 @@
 use Rattle.std.proofs.Common.{ap}
-use Rattle.mr_rows.specs.State.{NodeState}
+use Rattle.mr_node_spec.specs.State.{NodeState}
 use Rattle.mr_loop.specs.Hosts.{stage_in}
 use Rattle.mr_loop.proofs.Living.{went_up}
 use Rattle.mr_loop.proofs.Runs.{breaks_down}

@@ -1,5 +1,5 @@
 use Rattle.std.proofs.Common.{rules, ◌≡◌, [], ◌∷◌, Ok, Err, refl, ap, subst, ◌∙◌}
-use Rattle.mr_outs.specs.Outs.{OutsState, outs_of}
+use Rattle.mr_node_output.specs.Outs.{OutsState, outs_of}
 use Rattle.mr_node.specs.Steps.{Steps}
 use Rattle.mr_node.specs.declared.fault.NodeFault.TheVariants as refusal
 use Rattle.mr_node.specs.declared.step.Step.TheVariants as step
@@ -7,6 +7,8 @@ use Rattle.mr_loop.specs.Causes.{Stepped, at_step, has, stops_at_step}
 use Rattle.mr_loop.specs.Carrying.{Carried, CarriesAs}
 use Rattle.mr_loop.specs.Counting.{MomentState, Renewed}
 use Rattle.mr_loop.specs.Hosts.{moment_in, stage_in}
+use Rattle.mr_loop.specs.Lacking.{asked_at}
+use Rattle.mr_loop.specs.Stage.{losing}
 use Rattle.mr_loop.specs.Rows.{idles, is_refused, stops}
 use Rattle.mr_loop.proofs.Arrivals.{dropped_from}
 use Rattle.mr_loop.proofs.Linked.{carried_linked}
@@ -145,7 +147,7 @@ returns-in-Err g c =
     let old = moment_in g.S.Source.drawn c.args.self.now in
     record {
       went = counts_call (is_refused c.args.socket c.args.link given fresh) old (moment_in g.S.Source.drawn c.drop_connection.new.self) refl refl refl refl refl refl refl
-          (record { has = c.requires.has; node = c.step.new.self; refused = record { input = c.requires.input; row = row; sound = c.sound-in-Err.ensures }; dropped = dropped_from (record (stage_in g.W.Wire.links g.W.Wire.failures g.F.LogFile.told g.F.LogFile.synced c.args.self.now) { node = c.step.new.self }) _ c.step.new.self c.lack.new.self _ refl c.lack.ensures c.drop_connection.ensures.dropped })
+          (record { has = c.requires.has; node = c.step.new.self; refused = record { input = c.requires.input; row = row; sound = c.sound-in-Err.ensures }; unread = c.unread.result; counted = c.unread.ensures.count; dropped = dropped_from (record (stage_in g.W.Wire.links g.W.Wire.failures g.F.LogFile.told g.F.LogFile.synced c.args.self.now) { node = c.step.new.self }) _ c.step.new.self c.lose.new.self _ refl (c.lose.ensures ∙ ap (λ w. losing w c.args.self.now.own.now) (c.asked_at.ensures ∙ (ap (λ p. asked_at p c.told_or_none-unread.result) c.place-place.ensures ∙ ap (asked_at _) c.told_or_none-unread.ensures))) c.drop_connection.ensures.dropped })
           (given_none fresh old.fresh c.fresh-fresh.ensures) (tells_one c.given-given.ensures.forward (ap (λ (m : MomentState). m.drawn) c.drop_connection.ensures.moment ∙ c.given-given.ensures.drawn))
           (ap (λ (m : MomentState). m.fresh) c.drop_connection.ensures.moment ∙ c.count_step.ensures.fresh) (ap (λ (m : MomentState). m.turn) c.drop_connection.ensures.moment ∙ c.count_step.ensures.turn);
       same = same_on c.args.self.now _ c.drop_connection.new.self (record { node = refl; own = refl; wire = refl; log = refl; source = refl; mode = refl; wait_stays = refl }) c.drop_connection.ensures.same;

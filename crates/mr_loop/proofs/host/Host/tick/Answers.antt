@@ -1,5 +1,5 @@
-use Rattle.std.proofs.Common.{rules, ◌≡◌, ◌∙◌, [], ◌∷◌, Err, refl, sym, ap, subst}
-use Rattle.mr_outs.specs.Outs.{outs_of}
+use Rattle.std.proofs.Common.{rules, ◌≡◌, ◌∙◌, [], ◌∷◌, Err, refl, sym, ap, subst, inl, inr, arith}
+use Rattle.mr_node_output.specs.Outs.{outs_of}
 use Rattle.mr_source.specs.Drawn.{with_moment}
 use Rattle.mr_node.specs.Calls.{TickStep}
 use Rattle.mr_node.specs.declared.fault.NodeFault.TheVariants as refusal
@@ -39,10 +39,12 @@ returns-in_ok-take-in-Ok-clause-went g c =
     let new = moment_in g.S.Source.drawn c.take.new.self in
     let one : mid ≡ record old { drawn = with_moment now old.drawn } = ap (λ d. record old { drawn = d }) c.given-given.ensures.drawn in
     let still = renewed_none c.in-Ok.outs.used mid new (tick_takes s.node c.tick.new.self now c.in-Ok.outs c.in-Ok.ensures) c.in_ok-take-in-Ok.ensures.moment in
-    let clock : new.drawn.clock ≡ now = ap (λ (m : MomentState). m.drawn.clock) (still ∙ one) in (
-      ticks_once s t c.tick.new.self c.given-given.result c.in-Ok.outs old mid new c.in-Ok.ensures c.sound.ensures c.in_ok-take-in-Ok.ensures.carried c.given-given.ensures.forward one c.in_ok-take-in-Ok.ensures.moment,
-      λ due. more_due s t c.tick.new.self now c.in-Ok.outs c.has_deleted-more.result c.in-Ok.ensures c.in_ok-take-in-Ok.ensures.carried c.has_deleted-more.ensures (subst (λ x. IsTickDue x t.node) clock due),
-    )
+    let clock : new.drawn.clock ≡ now = ap (λ (m : MomentState). m.drawn.clock) (still ∙ one) in record {
+      missed = 0;
+      went = ticks_once s t c.tick.new.self c.given-given.result c.in-Ok.outs old mid new c.in-Ok.ensures c.sound.ensures c.in_ok-take-in-Ok.ensures.carried c.given-given.ensures.forward one c.in_ok-take-in-Ok.ensures.moment;
+      keeps_up = λ due. inl (more_due s t c.tick.new.self now c.in-Ok.outs c.has_deleted-more.result c.in-Ok.ensures c.in_ok-take-in-Ok.ensures.carried c.has_deleted-more.ensures (subst (λ x. IsTickDue x t.node) clock due));
+      goes_on = λ more. refl;
+    }
 
 pub returns-in_ok-take-in-Ok-clause-quiet : goal.returns-in_ok-take-in-Ok-clause-quiet
 returns-in_ok-take-in-Ok-clause-quiet g c = λ q.
@@ -62,14 +64,16 @@ returns-in-Err g c =
     let other : c.in-Err._refused ≡ refusal.Stopped → ⊥ = search rules in
     let same : c.tick.new.self ≡ c.args.self.now.node.now = missed_same c.args.self.now.node.now c.tick.new.self c.given-given.result.now c.in-Err._refused other c.in-Err.ensures in
     record {
-      went = (
-        misses_once s (record s { node = c.tick.new.self; own = c.lack.new.self }) c.given-given.result old (record old { drawn = g.S.Source.drawn c.given-given.new.source }) c.given-given.ensures.forward
+      went = record {
+        missed = 1;
+        went = misses_once s (record s { node = c.tick.new.self; own = c.lack.new.self }) c.given-given.result old (record old { drawn = g.S.Source.drawn c.given-given.new.source }) c.given-given.ensures.forward
             (ap (λ d. record old { drawn = d }) c.given-given.ensures.drawn) (record {
               up = missed_up c.args.self.now.node.now c.tick.new.self c.given-given.result.now c.in-Err._refused other c.in-Err.ensures;
               is = ap (λ n. record s { node = n; own = c.lack.new.self }) same ∙ ap (λ (o : LoopState). record s { own = o }) c.lack.ensures;
-            }),
-        λ due. refl,
-      );
+            });
+        keeps_up = λ due. inr (omega arith);
+        goes_on = λ e. cc;
+      };
       same = record { node = refl; own = refl; wire = refl; log = refl; source = refl; mode = refl; wait_stays = refl };
       device = λ e. cc;
       quiet = λ q. all_is same q;

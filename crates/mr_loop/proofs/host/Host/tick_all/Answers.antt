@@ -1,5 +1,5 @@
-use Rattle.std.proofs.Common.{rules, ◌≡◌, ◌∙◌, ◌+◌, ◌-◌, arith, ap, Err}
-use Rattle.mr_loop.specs.Counting.{most_ticks}
+use Rattle.std.proofs.Common.{rules, ◌≡◌, ◌∙◌, ◌+◌, ◌-◌, arith, ap, sym, subst, Err}
+use Rattle.mr_loop.specs.Counting.{IsTickDue, Passes, most_ticks}
 use Rattle.mr_loop.specs.Hosts.{moment_in, stage_in}
 use Rattle.mr_loop.proofs.Same.{same_here, same_on}
 use Rattle.mr_loop.proofs.Ticks.{all_passed, breaks_passing, enough_passed, none_passed, one_passed, passes_moded}
@@ -17,8 +17,9 @@ pub loop-left-preserved : goal.loop-left-preserved
 loop-left-preserved g c =
     let a = c.args.self.now in
     let m = c.loop-left.self in
+    let on = stage_in g.W.Wire.links g.W.Wire.failures g.F.LogFile.told g.F.LogFile.synced in
     let one : c.loop-left.left ≡ (c.loop-left.left - 1) + 1 = omega (arith, c.loop-left-test.true) in (
-      one_passed c.loop-left.left (c.loop-left.left - 1) one c.loop-left.invariant.0 (passes_moded m.log.now.mode a.log.now.mode c.loop-left.invariant.1.mode c.in_ok-tick.ensures.went.0),
+      one_passed c.loop-left.left (c.loop-left.left - 1) one c.loop-left.invariant.0 (passes_moded m.log.now.mode a.log.now.mode c.loop-left.invariant.1.mode (subst (λ k. Passes g.W.Wire.tells m.log.now.mode 1 k (moment_in g.S.Source.drawn m) (moment_in g.S.Source.drawn c.tick.new.self) (on m) (on c.tick.new.self)) (c.in_ok-tick.ensures.went.goes_on c.if-not-branch.false) c.in_ok-tick.ensures.went.went)),
       same_on a m c.tick.new.self c.loop-left.invariant.1 c.tick.ensures.same,
       λ q. c.in_ok-tick.ensures.quiet (c.loop-left.invariant.2 q),
     )
@@ -40,9 +41,9 @@ returns-then-not-branch-clause-went g c =
     let a = c.args.self.now in
     let m = c.loop-left.self in
     let one : c.loop-left.left ≡ (c.loop-left.left - 1) + 1 = omega (arith, c.loop-left-test.true) in
-    enough_passed g.W.Wire.tells g.W.Wire.links g.W.Wire.failures g.F.LogFile.told g.F.LogFile.synced g.S.Source.drawn a c.tick.new.self c.loop-left.left (c.loop-left.left - 1) (most_ticks a.moment.turn.done) (moment_in g.S.Source.drawn m) (stage_in g.W.Wire.links g.W.Wire.failures g.F.LogFile.told g.F.LogFile.synced m) c.in_ok-tick.field-0 one
-    c.loop-left.invariant.0 (passes_moded m.log.now.mode a.log.now.mode c.loop-left.invariant.1.mode c.in_ok-tick.ensures.went.0)
-    c.in_ok-tick.ensures.went.1 c.if-not-branch.true
+    enough_passed g.W.Wire.tells g.W.Wire.links g.W.Wire.failures g.F.LogFile.told g.F.LogFile.synced g.S.Source.drawn a c.tick.new.self c.loop-left.left (c.loop-left.left - 1) (most_ticks a.moment.turn.done) c.in_ok-tick.ensures.went.missed (moment_in g.S.Source.drawn m) (stage_in g.W.Wire.links g.W.Wire.failures g.F.LogFile.told g.F.LogFile.synced m) c.in_ok-tick.field-0 one
+    c.loop-left.invariant.0 (passes_moded m.log.now.mode a.log.now.mode c.loop-left.invariant.1.mode c.in_ok-tick.ensures.went.went)
+    c.in_ok-tick.ensures.went.keeps_up c.if-not-branch.true
 
 pub returns-then-not-branch-clause-same : goal.returns-then-not-branch-clause-same
 returns-then-not-branch-clause-same g c = same_on c.args.self.now c.loop-left.self c.tick.new.self c.loop-left.invariant.1 c.tick.ensures.same

@@ -1,5 +1,5 @@
 use Rattle.std.proofs.Common.{ap, refl, ◌∙◌}
-use Rattle.mr_rows.specs.LinkRows.{closed_at}
+use Rattle.mr_node_spec.specs.LinkRows.{closed_at}
 use Rattle.mr_loop.specs.Hosts.{moment_in}
 use Rattle.mr_loop.proofs.Runs.{still_here}
 use Rattle.mr_loop.proofs.Waiting.{all_is, closed_waits}

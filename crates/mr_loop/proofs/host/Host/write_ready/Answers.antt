@@ -1,5 +1,5 @@
 use Rattle.std.proofs.Common.{ap, ◌∙◌}
-use Rattle.mr_rows.specs.LinkRows.{closed_at}
+use Rattle.mr_node_spec.specs.LinkRows.{closed_at}
 use Rattle.mr_loop.proofs.Writes.{still_then, writes_first, writes_on}
 use Rattle.mr_loop.proofs.Same.{same_on}
 use Rattle.mr_loop.proofs.host.Host.write_ready.Goals as goal

@@ -1,6 +1,6 @@
 use Rattle.std.proofs.Common.{refl, subst, ◌∙◌}
-use Rattle.mr_outs.specs.Outs.{no_output}
-use Rattle.mr_rows.specs.State.{NodeState}
+use Rattle.mr_node_output.specs.Outs.{no_output}
+use Rattle.mr_node_spec.specs.State.{NodeState}
 use Rattle.mr_node.specs.Parts.{Uses}
 use Rattle.mr_node.proofs.Rows.{keep_row}
 use Rattle.mr_node.proofs.node.Node.acknowledge.Goals as goal

@@ -1,8 +1,8 @@
 use Rattle.std.proofs.Common.{◌≡◌, ap, subst, ◌∙◌}
 use Rattle.mr_links.specs.Links.{Links}
-use Rattle.mr_ends.specs.State.{EndState}
-use Rattle.mr_ends.specs.Replicas.{Lists}
-use Rattle.mr_rows.specs.State.{NodeState}
+use Rattle.mr_node_links.specs.State.{EndState}
+use Rattle.mr_node_links.specs.Replicas.{Lists}
+use Rattle.mr_node_spec.specs.State.{NodeState}
 use Rattle.mr_node.proofs.Telling.{info_answered, nothing_answered}
 use Rattle.mr_node.proofs.node.Node.answer_about.Goals as goal
 

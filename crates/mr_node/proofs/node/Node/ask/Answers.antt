@@ -2,8 +2,8 @@ use Rattle.std.proofs.Common.{◌≡◌, false, rules, subst, sym, true}
 use Rattle.std.specs.Prelude.{Ok}
 use Rattle.mr_resp.specs.Replies.{Tree}
 use Rattle.mr_cmd_node.specs.declared.node_ask.NodeAsk.{NodeAsk}
-use Rattle.mr_outs.specs.Outs.{OutsState}
-use Rattle.mr_rows.specs.Served.{says}
+use Rattle.mr_node_output.specs.Outs.{OutsState}
+use Rattle.mr_node_spec.specs.Served.{says}
 use Rattle.mr_node.specs.Parts.{Keeps}
 use Rattle.mr_node.specs.Reading.{IsWish, Wishes}
 use Rattle.mr_node.specs.Steps.{ClientStep, step_of}

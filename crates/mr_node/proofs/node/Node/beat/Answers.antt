@@ -1,9 +1,9 @@
 use Rattle.std.proofs.Common.{◌≡◌, ◌≤◌, ℤ, Some, sym, subst, ap, to_z, of_z, w64, ◌∙◌}
 use Rattle.std.proofs.lemmas.Int.{to_z-of_z}
 use Rattle.mr_repl.specs.Backlog.{offset_limit}
-use Rattle.mr_rows.specs.State.{NodeState}
-use Rattle.mr_rows.specs.Growing.{offset_behind}
-use Rattle.mr_state.specs.Parts.{Commits, marked_at}
+use Rattle.mr_node_spec.specs.State.{NodeState}
+use Rattle.mr_node_spec.specs.Growing.{offset_behind}
+use Rattle.mr_node_state.specs.Parts.{Commits, marked_at}
 use Rattle.mr_node.specs.Ticking.{PutsBeats, marked}
 use Rattle.mr_node.proofs.Ticking.{never_lacks, they_are_light, they_lead, ticks}
 use Rattle.mr_node.proofs.node.Node.beat.Goals as goal

@@ -1,14 +1,14 @@
 use Rattle.std.proofs.Common.{◌≡◌, ◌++◌, ap, drop, refl, subst, sym, ◌∙◌}
 use Rattle.mr_resp.specs.Replies.{Tree, reply_text}
 use Rattle.mr_resp.specs.ReplyView.{view}
-use Rattle.mr_room.specs.Answered.{done}
-use Rattle.mr_ends.specs.State.{begun, put_end}
-use Rattle.mr_ends.specs.State.EndState.{waiting}
-use Rattle.mr_outs.specs.Outs.{OutsState}
-use Rattle.mr_rows.specs.State.{NodeState, end_of}
-use Rattle.mr_rows.specs.ClientRows.{ClientRow}
-use Rattle.mr_rows.specs.Transactions.{only_says}
-use Rattle.mr_state.specs.Parts.{with_ends}
+use Rattle.mr_cmd_shared.specs.Answered.{done}
+use Rattle.mr_node_links.specs.State.{begun, put_end}
+use Rattle.mr_node_links.specs.State.EndState.{waiting}
+use Rattle.mr_node_output.specs.Outs.{OutsState}
+use Rattle.mr_node_spec.specs.State.{NodeState, end_of}
+use Rattle.mr_node_spec.specs.ClientRows.{ClientRow}
+use Rattle.mr_node_spec.specs.Transactions.{only_says}
+use Rattle.mr_node_state.specs.Parts.{with_ends}
 use Rattle.mr_node.proofs.Results.{on_ok_is}
 use Rattle.mr_node.proofs.Rows.{lacks_words}
 use Rattle.mr_node.proofs.Transactions.{begins_row}

@@ -1,7 +1,7 @@
 use Rattle.std.proofs.Common.{◌≡◌, not, subst, sym, take, true, false, ◌∙◌}
 use Rattle.mr_resp.specs.Replies.{Tree}
 use Rattle.mr_commands.specs.declared.transactions.Within.{Within}
-use Rattle.mr_ends.specs.State.{CanWait}
+use Rattle.mr_node_links.specs.State.{CanWait}
 use Rattle.mr_node.specs.Within.{Comes, EndsWith}
 use Rattle.mr_node.proofs.Ends.{one_open, open_of}
 use Rattle.mr_node.proofs.Transactions.{aborts, can_wait, discards, quits_within}

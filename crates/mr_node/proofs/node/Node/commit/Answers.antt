@@ -2,11 +2,11 @@ use Rattle.std.proofs.Common.{◌≡◌, ap, refl, Some, subst, sym, ◌∙◌}
 use Rattle.mr_resp.specs.Replies.{reply_text}
 use Rattle.mr_resp.specs.ReplyView.{view}
 use Rattle.mr_effect.specs.Spelling.{texts}
-use Rattle.mr_outs.specs.Outs.{OutsState, growth, outs_with}
-use Rattle.mr_rows.specs.State.{NodeState, spent_as}
-use Rattle.mr_rows.specs.ClientRows.{ClientRow}
-use Rattle.mr_rows.specs.Growing.{FedTo}
-use Rattle.mr_state.specs.Parts.{Commits, Leads, Spends}
+use Rattle.mr_node_output.specs.Outs.{OutsState, growth, outs_with}
+use Rattle.mr_node_spec.specs.State.{NodeState, spent_as}
+use Rattle.mr_node_spec.specs.ClientRows.{ClientRow}
+use Rattle.mr_node_spec.specs.Growing.{FedTo}
+use Rattle.mr_node_state.specs.Parts.{Commits, Leads, Spends}
 use Rattle.mr_node.specs.Parts.{FeedsAll}
 use Rattle.mr_node.proofs.Results.{is_no_ok, on_err_is, on_ok_is}
 use Rattle.mr_node.proofs.Rows.{lacks_words, stops_of, within_row}

@@ -1,10 +1,10 @@
 use Rattle.std.proofs.Common.{◌≡◌, ap, refl, Some, subst, sym, ◌∙◌}
 use Rattle.mr_resp.specs.Replies.{reply_text}
-use Rattle.mr_room.specs.Answered.{done}
-use Rattle.mr_outs.specs.Outs.{OutsState, no_outs}
-use Rattle.mr_rows.specs.State.{NodeState}
-use Rattle.mr_rows.specs.ClientRows.{ClientRow}
-use Rattle.mr_state.specs.Parts.{Obeys}
+use Rattle.mr_cmd_shared.specs.Answered.{done}
+use Rattle.mr_node_output.specs.Outs.{OutsState, no_outs}
+use Rattle.mr_node_spec.specs.State.{NodeState}
+use Rattle.mr_node_spec.specs.ClientRows.{ClientRow}
+use Rattle.mr_node_state.specs.Parts.{Obeys}
 use Rattle.mr_node.proofs.Results.{on_ok_is}
 use Rattle.mr_node.proofs.Roles.{demote_row}
 use Rattle.mr_node.proofs.Rows.{lacks_words}

@@ -1,6 +1,6 @@
 use Rattle.std.proofs.Common.{◌≡◌, ◌++◌, ℕ, List, Some, refl, sym, ap, ◌∙◌}
-use Rattle.mr_follow.specs.Handshake.{ping_line}
-use Rattle.mr_outs.specs.Outs.{OutsState, no_outs}
+use Rattle.mr_follower.specs.Handshake.{ping_line}
+use Rattle.mr_node_output.specs.Outs.{OutsState, no_outs}
 use Rattle.mr_node.proofs.Linking.{dials_row, ping, ping_bytes, went_well}
 use Rattle.mr_node.proofs.node.Node.dial.Goals as goal
 

@@ -1,13 +1,13 @@
 use Rattle.std.proofs.Common.{◌≡◌, ap, refl, rules, Some, subst, sym, true, ◌∙◌}
 use Rattle.mr_resp.specs.Replies.{reply_text}
 use Rattle.mr_resp.specs.ReplyView.{view}
-use Rattle.mr_ends.specs.State.{put_end}
-use Rattle.mr_ends.specs.State.EndState.{shut}
-use Rattle.mr_outs.specs.Outs.{OutsState, no_outs}
-use Rattle.mr_rows.specs.State.{NodeState}
-use Rattle.mr_rows.specs.ClientRows.{ClientRow}
-use Rattle.mr_rows.specs.Transactions.{WithinRow}
-use Rattle.mr_state.specs.Parts.{with_ends}
+use Rattle.mr_node_links.specs.State.{put_end}
+use Rattle.mr_node_links.specs.State.EndState.{shut}
+use Rattle.mr_node_output.specs.Outs.{OutsState, no_outs}
+use Rattle.mr_node_spec.specs.State.{NodeState}
+use Rattle.mr_node_spec.specs.ClientRows.{ClientRow}
+use Rattle.mr_node_spec.specs.Transactions.{WithinRow}
+use Rattle.mr_node_state.specs.Parts.{with_ends}
 use Rattle.mr_node.proofs.Ends.{put_leaves}
 use Rattle.mr_node.proofs.Rows.{last_closes}
 use Rattle.mr_node.proofs.node.Node.dismiss.Goals as goal

@@ -1,10 +1,10 @@
 use Rattle.std.proofs.Common.{◌≡◌, ◌++◌, ap, arith, refl, subst, sym, ◌∙◌}
 use Rattle.mr_resp.specs.Replies.{reply_text}
 use Rattle.mr_resp.specs.ReplyView.{view}
-use Rattle.mr_ends.specs.Parts.{HasOpen}
-use Rattle.mr_outs.specs.Outs.{OutsState}
-use Rattle.mr_rows.specs.State.{NodeState}
-use Rattle.mr_rows.specs.Transactions.{WithinRow, only_says}
+use Rattle.mr_node_links.specs.Parts.{HasOpen}
+use Rattle.mr_node_output.specs.Outs.{OutsState}
+use Rattle.mr_node_spec.specs.State.{NodeState}
+use Rattle.mr_node_spec.specs.Transactions.{WithinRow, only_says}
 use Rattle.mr_node.proofs.Ends.{out_of, out_ahead}
 use Rattle.mr_node.proofs.Results.{on_ok_is}
 use Rattle.mr_node.proofs.Transactions.{drop_row, ends_lack, taken_out}

@@ -1,11 +1,11 @@
 use Rattle.std.proofs.Common.{◌≡◌, ap, arith, List, ℕ, map, Some, subst, sym, ◌∙◌}
 use Rattle.std.specs.Prelude.{Err}
 use Rattle.mr_links.specs.Links.{Links}
-use Rattle.mr_ends.specs.Parts.{HasAhead, HasOpen, IsClient}
-use Rattle.mr_ends.specs.State.{EndState, Transaction, put_end}
-use Rattle.mr_ends.specs.State.EndState.{client, waiting}
-use Rattle.mr_rows.specs.State.{NodeState, end_of}
-use Rattle.mr_state.specs.Parts.{with_ends}
+use Rattle.mr_node_links.specs.Parts.{HasAhead, HasOpen, IsClient}
+use Rattle.mr_node_links.specs.State.{EndState, Transaction, put_end}
+use Rattle.mr_node_links.specs.State.EndState.{client, waiting}
+use Rattle.mr_node_spec.specs.State.{NodeState, end_of}
+use Rattle.mr_node_state.specs.Parts.{with_ends}
 use Rattle.mr_node.specs.Executing.{Executed, Executes}
 use Rattle.mr_node.proofs.Ends.{out_ahead, out_found, out_of}
 use Rattle.mr_node.proofs.Executing.{ends_stay, executes_row, gives_back}

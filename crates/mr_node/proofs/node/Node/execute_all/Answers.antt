@@ -2,10 +2,10 @@ use Rattle.std.proofs.Common.{◌≡◌, ◌++◌, ◌∷◌, ap, length, map, s
 use Rattle.std.proofs.lemmas.List.{length-map}
 use Rattle.mr_resp.specs.Spelling.{number_line}
 use Rattle.mr_links.specs.Links.{Links}
-use Rattle.mr_ends.specs.State.{EndState}
-use Rattle.mr_ends.specs.Replicas.{Lists}
-use Rattle.mr_outs.specs.Outs.{OutsState}
-use Rattle.mr_rows.specs.State.{NodeState}
+use Rattle.mr_node_links.specs.State.{EndState}
+use Rattle.mr_node_links.specs.Replicas.{Lists}
+use Rattle.mr_node_output.specs.Outs.{OutsState}
+use Rattle.mr_node_spec.specs.State.{NodeState}
 use Rattle.mr_node.specs.Executing.{DidAll}
 use Rattle.mr_node.proofs.Executing.{closes_all, counts_done, headed}
 use Rattle.mr_node.proofs.Results.{on_ok_is}

@@ -1,6 +1,6 @@
 use Rattle.std.proofs.Common.{◌≡◌, ◌+◌, ◌++◌, ◌∷◌, [], ◌≤◌, ◌<◌, List, ℕ, ap, arith, drop, length, map, rules, subst, sym, take, ◌∙◌}
 use Rattle.std.proofs.lemmas.List.{length-map, take_more}
-use Rattle.mr_ends.specs.State.{CanWait}
+use Rattle.mr_node_links.specs.State.{CanWait}
 use Rattle.mr_node.specs.Executing.{DidAll}
 use Rattle.mr_node.proofs.Executing.{count_fits, did_more, did_none, gives_up, listed_at, split_at}
 use Rattle.mr_node.proofs.node.Node.execute_each.Goals as goal

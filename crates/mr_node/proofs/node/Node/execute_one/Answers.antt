@@ -7,7 +7,7 @@ use Rattle.mr_resp.specs.ReplyView.{view}
 use Rattle.mr_resp.specs.Usual.{commands-words, usual-word, usual-words}
 use Rattle.mr_resp.specs.declared.request.Scan.TheVariants.{Whole}
 use Rattle.mr_commands.specs.Requests.{HasPlan, IsPlain, left}
-use Rattle.mr_rows.specs.State.{NodeState}
+use Rattle.mr_node_spec.specs.State.{NodeState}
 use Rattle.mr_node.specs.Executing.{IsTold}
 use Rattle.mr_node.proofs.Executing.{says_so, told_one}
 use Rattle.mr_node.proofs.Reading.{all_fit, must_be_whole, read_as, waited_run, waited_say, words_again}

@@ -4,14 +4,14 @@ use Rattle.mr_resp.specs.Replies.{Tree, reply_text}
 use Rattle.mr_resp.specs.ReplyView.{view}
 use Rattle.mr_effect.specs.Spelling.{texts}
 use Rattle.mr_groups.specs.Groups.{frame_for}
-use Rattle.mr_outs.specs.Outs.{OutsState}
+use Rattle.mr_node_output.specs.Outs.{OutsState}
 use Rattle.mr_commands.specs.Transactions.{past_limit}
-use Rattle.mr_rows.specs.State.{NodeState}
-use Rattle.mr_state.specs.Parts.{Holds, Leads, Spends}
+use Rattle.mr_node_spec.specs.State.{NodeState}
+use Rattle.mr_node_state.specs.Parts.{Holds, Leads, Spends}
 use Rattle.mr_node.specs.Executing.{SaysOnly}
 use Rattle.mr_node.proofs.Executing.{did_some, have_no_room, have_room, passing, plain_reply, says_so, spent_by}
 use Rattle.mr_node.proofs.Results.{is_no_ok, on_err_is, on_ok_is}
-use Rattle.mr_state.proofs.Changes.{none_there}
+use Rattle.mr_node_state.proofs.Changes.{none_there}
 use Rattle.mr_node.proofs.node.Node.execute_plan.Goals as goal
 
 pub returns-then-count-eq0 : goal.returns-then-count-eq0

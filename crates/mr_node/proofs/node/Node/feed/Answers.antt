@@ -1,11 +1,11 @@
 use Rattle.std.proofs.Common.{◌≡◌, ◌≢◌, ◌⊎◌, Option, None, Some, true, length, refl, ap, sym, subst, ◌∙◌, rules}
-use Rattle.mr_ends.specs.State.{EndState, put_end, serves}
-use Rattle.mr_ends.specs.Ending.{heard_of, kind_of}
-use Rattle.mr_ends.specs.Parts.{HearsAt}
-use Rattle.mr_ends.specs.declared.kind.Kind.{Kind}
-use Rattle.mr_ends.specs.declared.kind.Kind.TheVariants as kind
-use Rattle.mr_rows.specs.State.{IsNode, NodeState, end_of}
-use Rattle.mr_state.specs.Parts.{fed_as, with_ends}
+use Rattle.mr_node_links.specs.State.{EndState, put_end, serves}
+use Rattle.mr_node_links.specs.Ending.{heard_of, kind_of}
+use Rattle.mr_node_links.specs.Parts.{HearsAt}
+use Rattle.mr_node_links.specs.declared.kind.Kind.{Kind}
+use Rattle.mr_node_links.specs.declared.kind.Kind.TheVariants as kind
+use Rattle.mr_node_spec.specs.State.{IsNode, NodeState, end_of}
+use Rattle.mr_node_state.specs.Parts.{fed_as, with_ends}
 use Rattle.mr_node.proofs.Linking.{feeds_master, feeds_served, feeds_shut, fits_there, fits_unserved, kind_serves, kind_shut, kind_upstream, too_much, went}
 use Rattle.mr_node.proofs.node.Node.feed.Goals as goal
 use Rattle.mr_node.proofs.node.Node.feed.Goals.{in-Client+else-bytes-room, in-Upstream, in-Shut}

@@ -1,10 +1,10 @@
 use Rattle.std.proofs.Common.{◌≡◌, ◌≢◌, [], Some, ap, subst, ◌∙◌, rules}
 use Rattle.std.specs.Prelude.{Ok, Err}
-use Rattle.mr_course.specs.declared.upstream.UpstreamFault.TheVariants as fault
-use Rattle.mr_course.specs.declared.upstream.UpstreamStep.TheVariants as outcome
-use Rattle.mr_outs.specs.Outs.{OutsState, no_outs}
-use Rattle.mr_rows.specs.State.{NodeState}
-use Rattle.mr_state.specs.Listening.{Heard}
+use Rattle.mr_replication.specs.declared.upstream.UpstreamFault.TheVariants as fault
+use Rattle.mr_replication.specs.declared.upstream.UpstreamStep.TheVariants as outcome
+use Rattle.mr_node_output.specs.Outs.{OutsState, no_outs}
+use Rattle.mr_node_spec.specs.State.{NodeState}
+use Rattle.mr_node_state.specs.Listening.{Heard}
 use Rattle.mr_node.proofs.Following.{hears_of, lacks_of, spends_of, waits_of}
 use Rattle.mr_node.proofs.node.Node.follow.Goals as goal
 

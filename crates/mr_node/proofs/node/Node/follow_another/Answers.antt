@@ -1,7 +1,7 @@
 use Rattle.std.proofs.Common.{◌≡◌, false, refl, Some, subst, sym, rules}
 use Rattle.mr_resp.specs.Replies.{Tree}
 use Rattle.mr_cmd_node.specs.declared.node_ask.NodeAsk.TheVariants as node
-use Rattle.mr_rows.specs.Served.{says}
+use Rattle.mr_node_spec.specs.Served.{says}
 use Rattle.mr_node.specs.Parts.{Keeps}
 use Rattle.mr_node.proofs.Asking.{keeps_replica}
 use Rattle.mr_node.proofs.node.Node.follow_another.Goals as goal

@@ -1,6 +1,6 @@
 use Rattle.std.proofs.Common.{◌≡◌, ap, Some, subst, sym, true, ◌∙◌}
-use Rattle.mr_outs.specs.Outs.{OutsState, no_outs}
-use Rattle.mr_rows.specs.ClientRows.{ClientRow}
+use Rattle.mr_node_output.specs.Outs.{OutsState, no_outs}
+use Rattle.mr_node_spec.specs.ClientRows.{ClientRow}
 use Rattle.mr_node.proofs.Rows.{halt_row}
 use Rattle.mr_node.proofs.node.Node.halt.Goals as goal
 

@@ -1,9 +1,9 @@
 use Rattle.std.proofs.Common.{◌≡◌, not, length, ap, subst, ◌∙◌}
 use Rattle.mr_info.specs.Info.{info_text}
 use Rattle.mr_links.specs.Links.{Links}
-use Rattle.mr_ends.specs.State.{EndState}
-use Rattle.mr_ends.specs.Replicas.{Lists}
-use Rattle.mr_rows.specs.State.{NodeState}
+use Rattle.mr_node_links.specs.State.{EndState}
+use Rattle.mr_node_links.specs.Replicas.{Lists}
+use Rattle.mr_node_spec.specs.State.{NodeState}
 use Rattle.mr_node.proofs.Telling.{if_ok_map, info_told}
 use Rattle.mr_node.proofs.node.Node.info_text.Goals as goal
 

@@ -1,7 +1,7 @@
 use Rattle.std.proofs.Common.{◌≡◌, refl, rules, Some}
-use Rattle.mr_ends.specs.Ending.{kind_of}
-use Rattle.mr_ends.specs.declared.kind.Kind.TheVariants as kind
-use Rattle.mr_rows.specs.State.{end_of}
+use Rattle.mr_node_links.specs.Ending.{kind_of}
+use Rattle.mr_node_links.specs.declared.kind.Kind.TheVariants as kind
+use Rattle.mr_node_spec.specs.State.{end_of}
 use Rattle.mr_node.proofs.Linking.{client_end}
 use Rattle.mr_node.proofs.node.Node.is_client.Goals as goal
 

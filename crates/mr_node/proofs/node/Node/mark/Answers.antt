@@ -1,13 +1,13 @@
 use Rattle.std.proofs.Common.{◌≡◌, ◌++◌, ap, drop, refl, subst, sym, ◌∙◌}
 use Rattle.mr_resp.specs.Replies.{reply_text}
 use Rattle.mr_resp.specs.ReplyView.{view}
-use Rattle.mr_ends.specs.Parts.{HasOpen}
-use Rattle.mr_ends.specs.State.{as_marked, put_end}
-use Rattle.mr_ends.specs.State.EndState.{waiting}
-use Rattle.mr_outs.specs.Outs.{OutsState}
-use Rattle.mr_rows.specs.State.{NodeState, end_of}
-use Rattle.mr_rows.specs.Transactions.{WithinRow, only_says}
-use Rattle.mr_state.specs.Parts.{with_ends}
+use Rattle.mr_node_links.specs.Parts.{HasOpen}
+use Rattle.mr_node_links.specs.State.{as_marked, put_end}
+use Rattle.mr_node_links.specs.State.EndState.{waiting}
+use Rattle.mr_node_output.specs.Outs.{OutsState}
+use Rattle.mr_node_spec.specs.State.{NodeState, end_of}
+use Rattle.mr_node_spec.specs.Transactions.{WithinRow, only_says}
+use Rattle.mr_node_state.specs.Parts.{with_ends}
 use Rattle.mr_node.proofs.Results.{on_ok_is}
 use Rattle.mr_node.proofs.Transactions.{comes_lack, mark_row}
 use Rattle.mr_node.proofs.node.Node.mark.Goals as goal

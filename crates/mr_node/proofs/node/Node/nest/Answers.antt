@@ -1,9 +1,9 @@
 use Rattle.std.proofs.Common.{◌≡◌, ◌++◌, ap, refl, subst, sym, ◌∙◌}
 use Rattle.mr_resp.specs.Replies.{Tree, reply_text}
 use Rattle.mr_resp.specs.ReplyView.{view}
-use Rattle.mr_outs.specs.Outs.{OutsState}
+use Rattle.mr_node_output.specs.Outs.{OutsState}
 use Rattle.mr_commands.specs.Transactions.{nested}
-use Rattle.mr_rows.specs.Transactions.{WithinRow, only_says}
+use Rattle.mr_node_spec.specs.Transactions.{WithinRow, only_says}
 use Rattle.mr_node.proofs.Ends.{open_ahead}
 use Rattle.mr_node.proofs.Results.{on_ok_is}
 use Rattle.mr_node.proofs.Transactions.{comes_lack, nest_row}

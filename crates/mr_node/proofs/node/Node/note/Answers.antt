@@ -1,10 +1,10 @@
 use Rattle.std.proofs.Common.{refl, sym, ap, subst, ◌∙◌, true}
-use Rattle.mr_ends.specs.State.{put_end}
-use Rattle.mr_ends.specs.State.EndState.{replica, shut}
-use Rattle.mr_state.specs.Parts.{with_ends}
-use Rattle.mr_outs.specs.Outs.{OutsState}
-use Rattle.mr_rows.specs.State.{NodeState, end_of}
-use Rattle.mr_rows.specs.ReplicaRows.{ReplicaRow}
+use Rattle.mr_node_links.specs.State.{put_end}
+use Rattle.mr_node_links.specs.State.EndState.{replica, shut}
+use Rattle.mr_node_state.specs.Parts.{with_ends}
+use Rattle.mr_node_output.specs.Outs.{OutsState}
+use Rattle.mr_node_spec.specs.State.{NodeState, end_of}
+use Rattle.mr_node_spec.specs.ReplicaRows.{ReplicaRow}
 use Rattle.mr_node.specs.Noting.{IsNoted, KeepsNoted}
 use Rattle.mr_node.proofs.Ends.{put_leaves}
 use Rattle.mr_node.proofs.Noting.{acknowledgement_row, part_row, skip_row, uses_as}

@@ -1,7 +1,7 @@
 use Rattle.std.proofs.Common.{rules, ◌≡◌, ◌-◌, ◌≤◌, ℕ, ℤ, subst, ap, to_z, of_z, w64}
 use Rattle.std.proofs.lemmas.Int.{to_z-of_z}
 use Rattle.mr_repl.specs.Backlog.{offset_limit}
-use Rattle.mr_rows.specs.TimeRows.{room_in}
+use Rattle.mr_node_spec.specs.TimeRows.{room_in}
 use Rattle.mr_node.specs.Ticking.{Doomed, SinceBeat}
 use Rattle.mr_node.proofs.Ticking.{Writes, doomed_at, puts, writes_as, writes_beat, writes_full, writes_unmarked, writes_waiting}
 use Rattle.mr_node.proofs.node.Node.put_beats.Goals as goal

@@ -1,8 +1,8 @@
 use Rattle.std.proofs.Common.{◌≡◌, ap, subst, ◌∙◌}
-use Rattle.mr_entries.specs.Dataset.{Dataset}
+use Rattle.mr_keyspace.specs.Dataset.{Dataset}
 use Rattle.mr_data.specs.Rebuilding.{rebuilding}
-use Rattle.mr_rows.specs.State.{NodeState}
-use Rattle.mr_rows.specs.Growing.{Remakes}
+use Rattle.mr_node_spec.specs.State.{NodeState}
+use Rattle.mr_node_spec.specs.Growing.{Remakes}
 use Rattle.mr_node.proofs.Results.{on_any}
 use Rattle.mr_node.proofs.Rows.{remakes_of}
 use Rattle.mr_node.proofs.node.Node.put_dataset.Goals as goal

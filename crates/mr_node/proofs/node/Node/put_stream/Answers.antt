@@ -3,8 +3,8 @@ use Rattle.std.proofs.lemmas.Int.{to_z-of_z}
 use Rattle.mr_repl.specs.Lineage.{LineageState, standing_of}
 use Rattle.mr_repl.specs.Standing.{MayContinue}
 use Rattle.mr_repl.specs.declared.standing.Standing.{Standing}
-use Rattle.mr_rows.specs.State.{NodeState}
-use Rattle.mr_rows.specs.ClientRows.{IsAnswerToPsync}
+use Rattle.mr_node_spec.specs.State.{NodeState}
+use Rattle.mr_node_spec.specs.ClientRows.{IsAnswerToPsync}
 use Rattle.mr_node.proofs.Results.{on_ok_both, on_ok_map}
 use Rattle.mr_node.proofs.node.Node.put_stream.Goals as goal
 

@@ -1,6 +1,6 @@
 use Rattle.std.proofs.Common.{subst, sym}
 use Rattle.mr_resp.specs.Replies.{Tree, reply_text}
-use Rattle.mr_rows.specs.ClientRows.{Ends}
+use Rattle.mr_node_spec.specs.ClientRows.{Ends}
 use Rattle.mr_node.proofs.Rows.{quit_ends, quit_lacks}
 use Rattle.mr_node.proofs.node.Node.quit.Goals as goal
 

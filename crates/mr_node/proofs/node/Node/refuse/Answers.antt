@@ -1,6 +1,6 @@
 use Rattle.std.proofs.Common.{refl, subst, sym}
 use Rattle.mr_resp.specs.Replies.{Tree, reply_text}
-use Rattle.mr_rows.specs.ClientRows.{Ends, MayLack}
+use Rattle.mr_node_spec.specs.ClientRows.{Ends, MayLack}
 use Rattle.mr_node.proofs.Rows.{doomed_ends}
 use Rattle.mr_node.proofs.node.Node.refuse.Goals as goal
 

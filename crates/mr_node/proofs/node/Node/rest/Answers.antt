@@ -1,10 +1,10 @@
 use Rattle.std.proofs.Common.{rules, ◌≡◌, ℤ, Option, Some, refl, sym, subst, ap, to_z, of_z, w64, ◌∙◌}
 use Rattle.std.proofs.lemmas.Int.{to_z-of_z}
-use Rattle.mr_outs.specs.Outs.{OutsState, no_outs}
-use Rattle.mr_rows.specs.State.{NodeState}
-use Rattle.mr_rows.specs.Acknowledging.{acknowledgement}
-use Rattle.mr_rows.specs.TimeRows.{HasPassed, IsStreaming, IsUnmarked, IsWaiting, Rests, TickRow, acknowledge_after}
-use Rattle.mr_state.specs.Parts.{marked_at}
+use Rattle.mr_node_output.specs.Outs.{OutsState, no_outs}
+use Rattle.mr_node_spec.specs.State.{NodeState}
+use Rattle.mr_node_spec.specs.Acknowledging.{acknowledgement}
+use Rattle.mr_node_spec.specs.TimeRows.{HasPassed, IsStreaming, IsUnmarked, IsWaiting, Rests, TickRow, acknowledge_after}
+use Rattle.mr_node_state.specs.Parts.{marked_at}
 use Rattle.mr_node.proofs.node.Node.rest.Goals as goal
 use Rattle.mr_node.proofs.node.Node.rest.Goals.{in-Waiting, in-Unmarked, in-Passed+in-Some+else-is_err}
 

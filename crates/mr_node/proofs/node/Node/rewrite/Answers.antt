@@ -1,14 +1,14 @@
 use Rattle.std.proofs.Common.{◌≡◌, ◌++◌, ℕ, List, ap, refl, rules, Some, subst, sym, ◌∙◌}
 use Rattle.mr_resp.specs.Replies.{Tree, reply_text}
 use Rattle.mr_resp.specs.ReplyView.{view}
-use Rattle.mr_entries.specs.Dataset.{Dataset}
+use Rattle.mr_keyspace.specs.Dataset.{Dataset}
 use Rattle.mr_cmd_server.specs.Commands.{rewriting}
 use Rattle.mr_data.specs.Rebuilding.{rebuilding}
-use Rattle.mr_outs.specs.Outs.{OutsState, no_outs, outs_with}
-use Rattle.mr_rows.specs.State.{NodeState}
-use Rattle.mr_rows.specs.ClientRows.{ClientRow}
-use Rattle.mr_rows.specs.Growing.{Remakes, rebuilt}
-use Rattle.mr_rows.specs.Served.{rewritten_as}
+use Rattle.mr_node_output.specs.Outs.{OutsState, no_outs, outs_with}
+use Rattle.mr_node_spec.specs.State.{NodeState}
+use Rattle.mr_node_spec.specs.ClientRows.{ClientRow}
+use Rattle.mr_node_spec.specs.Growing.{Remakes, rebuilt}
+use Rattle.mr_node_spec.specs.Served.{rewritten_as}
 use Rattle.mr_node.proofs.Results.{on_ok_is}
 use Rattle.mr_node.proofs.Rows.{lacks_words, remakes_of, rewrite_row}
 use Rattle.mr_node.proofs.node.Node.rewrite.Goals as goal

@@ -1,9 +1,9 @@
 use Rattle.std.proofs.Common.{◌≡◌, ℕ, None, Some, true, false, length, sym, ap, subst, ◌∙◌, rules}
 use Rattle.mr_info.specs.Roles.{master_reply, replica_reply}
 use Rattle.mr_links.specs.Links.{Links}
-use Rattle.mr_ends.specs.State.{EndState}
-use Rattle.mr_ends.specs.Replicas.{Lists}
-use Rattle.mr_rows.specs.State.{NodeState}
+use Rattle.mr_node_links.specs.State.{EndState}
+use Rattle.mr_node_links.specs.Replicas.{Lists}
+use Rattle.mr_node_spec.specs.State.{NodeState}
 use Rattle.mr_resp.specs.ReplyView.{view}
 use Rattle.mr_node.specs.Parts.{ListsReplicas}
 use Rattle.mr_node.proofs.Telling.{if_ok_map, master_answered, replica_answered}

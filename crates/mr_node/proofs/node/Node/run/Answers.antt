@@ -1,10 +1,10 @@
 use Rattle.std.proofs.Common.{◌≡◌, Bool, ap, refl, Some, subst, sym, ◌∙◌}
 use Rattle.mr_resp.specs.Replies.{error, reply_text}
 use Rattle.mr_resp.specs.ReplyView.{view}
-use Rattle.mr_outs.specs.Outs.{OutsState, outs_with}
-use Rattle.mr_rows.specs.ClientRows.{ClientRow}
-use Rattle.mr_rows.specs.Growing.{limit_text}
-use Rattle.mr_rows.specs.Served.{says}
+use Rattle.mr_node_output.specs.Outs.{OutsState, outs_with}
+use Rattle.mr_node_spec.specs.ClientRows.{ClientRow}
+use Rattle.mr_node_spec.specs.Growing.{limit_text}
+use Rattle.mr_node_spec.specs.Served.{says}
 use Rattle.mr_node.specs.Parts.{Tells}
 use Rattle.mr_node.proofs.Rows.{beyond_row, lacks_words}
 use Rattle.mr_node.proofs.node.Node.run.Goals as goal

@@ -1,8 +1,8 @@
 use Rattle.std.proofs.Common.{ap, not, refl, subst, sym, ◌∙◌}
 use Rattle.std.specs.Prelude.{Ok}
-use Rattle.mr_ends.specs.State.EndState.{client}
-use Rattle.mr_outs.specs.Outs.{OutsState}
-use Rattle.mr_rows.specs.State.{NodeState, end_of}
+use Rattle.mr_node_links.specs.State.EndState.{client}
+use Rattle.mr_node_output.specs.Outs.{OutsState}
+use Rattle.mr_node_spec.specs.State.{NodeState, end_of}
 use Rattle.mr_node.specs.Steps.{ClientStep, step_of}
 use Rattle.mr_node.specs.declared.todo.Todo.TheVariants as todo
 use Rattle.mr_node.proofs.Ends.{ahead_of, client_of}

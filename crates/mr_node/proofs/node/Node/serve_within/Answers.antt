@@ -1,8 +1,8 @@
 use Rattle.std.proofs.Common.{ap, not, refl, subst, sym, ◌∙◌}
-use Rattle.mr_ends.specs.State.EndState.{waiting}
-use Rattle.mr_outs.specs.Outs.{OutsState}
-use Rattle.mr_rows.specs.State.{NodeState, end_of}
-use Rattle.mr_rows.specs.Transactions.{WithinRow}
+use Rattle.mr_node_links.specs.State.EndState.{waiting}
+use Rattle.mr_node_output.specs.Outs.{OutsState}
+use Rattle.mr_node_spec.specs.State.{NodeState, end_of}
+use Rattle.mr_node_spec.specs.Transactions.{WithinRow}
 use Rattle.mr_node.specs.declared.within.TodoWithin.TheVariants as todo
 use Rattle.mr_node.proofs.Ends.{open_ahead, open_of}
 use Rattle.mr_node.proofs.Transactions.{found_within, pass_row}

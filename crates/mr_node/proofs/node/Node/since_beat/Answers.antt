@@ -1,8 +1,8 @@
 use Rattle.std.proofs.Common.{rules, ◌≡◌, ℤ, Option, true, refl, sym, subst, ap, w64, ◌∙◌}
 use Rattle.std.proofs.lemmas.Int.{to_z-of_z}
-use Rattle.mr_rows.specs.State.{NodeState}
-use Rattle.mr_rows.specs.TimeRows.{HasPassed, beat_after}
-use Rattle.mr_ends.specs.Replicas.{Lists}
+use Rattle.mr_node_spec.specs.State.{NodeState}
+use Rattle.mr_node_spec.specs.TimeRows.{HasPassed, beat_after}
+use Rattle.mr_node_links.specs.Replicas.{Lists}
 use Rattle.mr_node.specs.Ticking.{SinceBeat}
 use Rattle.mr_node.proofs.Ticking.{some_listed}
 use Rattle.mr_node.proofs.node.Node.since_beat.Goals as goal

@@ -1,5 +1,5 @@
 use Rattle.std.proofs.Common.{◌≡◌, ap, Some, true, false, is_some, rules, sym, ◌∙◌}
-use Rattle.mr_rows.specs.State.{end_of}
+use Rattle.mr_node_spec.specs.State.{end_of}
 use Rattle.mr_node.proofs.Ends.{held_none, held_some, kind_client, kind_replica, kind_waiting}
 use Rattle.mr_node.proofs.node.Node.step_into.Goals as goal
 

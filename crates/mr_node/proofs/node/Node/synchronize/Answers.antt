@@ -1,10 +1,10 @@
 use Rattle.std.proofs.Common.{◌≡◌, FitsSigned, ℕ, ℤ, List, ap, of_z, refl, rules, Some, subst, sym, to_z, w64, ◌∙◌}
 use Rattle.std.proofs.lemmas.Int.{to_z-of_z}
-use Rattle.mr_ends.specs.Parts.{TurnsAt}
-use Rattle.mr_outs.specs.Outs.{OutsState, no_outs}
-use Rattle.mr_rows.specs.State.{NodeState}
-use Rattle.mr_rows.specs.ClientRows.{ClientRow, IsAnswerToPsync}
-use Rattle.mr_state.specs.Parts.{OnlyEnds}
+use Rattle.mr_node_links.specs.Parts.{TurnsAt}
+use Rattle.mr_node_output.specs.Outs.{OutsState, no_outs}
+use Rattle.mr_node_spec.specs.State.{NodeState}
+use Rattle.mr_node_spec.specs.ClientRows.{ClientRow, IsAnswerToPsync}
+use Rattle.mr_node_state.specs.Parts.{OnlyEnds}
 use Rattle.mr_node.proofs.Results.{on_err_is, on_ok_is}
 use Rattle.mr_node.proofs.Roles.{synchronize_row}
 use Rattle.mr_node.proofs.Rows.{lacks_words}

@@ -1,9 +1,9 @@
 use Rattle.std.proofs.Common.{◌≡◌, ◌++◌, Some, refl, ap, subst, sym, ◌∙◌}
-use Rattle.mr_rows.specs.ClientRows.{ClientRow}
-use Rattle.mr_rows.specs.Telling.{reply_about}
+use Rattle.mr_node_spec.specs.ClientRows.{ClientRow}
+use Rattle.mr_node_spec.specs.Telling.{reply_about}
 use Rattle.mr_resp.specs.Replies.{Tree, reply_text}
 use Rattle.mr_resp.specs.ReplyView.{view}
-use Rattle.mr_outs.specs.Outs.{OutsState, no_output, outs_with}
+use Rattle.mr_node_output.specs.Outs.{OutsState, no_output, outs_with}
 use Rattle.mr_node.specs.Parts.{TellsOf}
 use Rattle.mr_node.proofs.Linking.{went_well}
 use Rattle.mr_node.proofs.Rows.{lacks_words, tell_row}

@@ -1,6 +1,6 @@
 use Rattle.std.proofs.Common.{◌≡◌, length, rules, Some, true}
-use Rattle.mr_ends.specs.State.{unread_in}
-use Rattle.mr_rows.specs.State.{end_of}
+use Rattle.mr_node_links.specs.State.{unread_in}
+use Rattle.mr_node_spec.specs.State.{end_of}
 use Rattle.mr_node.proofs.Ends.{served_unreads}
 use Rattle.mr_node.proofs.node.Node.unread.Goals as goal
 

@@ -1,5 +1,5 @@
 use Rattle.std.proofs.Common.{refl, sym, ◌∙◌, ap}
-use Rattle.mr_outs.specs.Outs.{OutsState, no_outs}
+use Rattle.mr_node_output.specs.Outs.{OutsState, no_outs}
 use Rattle.mr_node.proofs.Ticking.{all_there, begin, fills, fitting_of, grows, no_key, unchanged}
 use Rattle.mr_node.proofs.node.ticking.put_deletions.Goals as goal
 

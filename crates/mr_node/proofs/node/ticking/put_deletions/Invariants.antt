@@ -1,6 +1,6 @@
 use Rattle.std.proofs.Common.{◌≡◌}
 use Rattle.mr_effect.specs.Spelling.{texts}
-use Rattle.mr_outs.specs.Outs.{no_outs}
+use Rattle.mr_node_output.specs.Outs.{no_outs}
 use Rattle.mr_node.proofs.Ticking.{Growing, deletions_of}
 use Rattle.mr_node.proofs.node.ticking.put_deletions.Given as goal
 

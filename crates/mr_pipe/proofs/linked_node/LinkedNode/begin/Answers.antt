@@ -1,6 +1,6 @@
 use Rattle.std.proofs.Common.{rules, ◌≡◌, false}
 use Rattle.mr_repl.specs.Backlog.{usual_backlog}
-use Rattle.mr_rows.specs.State.{started}
+use Rattle.mr_node_spec.specs.State.{started}
 use Rattle.mr_pipe.proofs.Steps.{opened}
 use Rattle.mr_pipe.proofs.linked_node.LinkedNode.begin.Goals as goal
 

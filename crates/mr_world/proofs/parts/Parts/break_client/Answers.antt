@@ -1,6 +1,6 @@
 use Rattle.std.proofs.Common.{rules, ◌≡◌, ◌<◌, length, subst}
-use Rattle.mr_seen.specs.State.{WorldState, Link}
-use Rattle.mr_carrying.specs.AtLink.{IsAsking}
+use Rattle.law_refinement.specs.State.{WorldState, Link}
+use Rattle.mr_world_parts.specs.AtLink.{IsAsking}
 use Rattle.mr_world.specs.Calls.{Leaves, put_link}
 use Rattle.mr_world.proofs.Joins.{leaves_here, read_twice}
 use Rattle.mr_world.proofs.parts.Parts.break_client.Goals as goal

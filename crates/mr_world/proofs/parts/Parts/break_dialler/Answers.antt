@@ -1,7 +1,7 @@
 use Rattle.std.proofs.Common.{rules, ◌≡◌, ◌<◌, ◌∙◌, true, length, refl, sym, subst}
 use Rattle.std.specs.Prelude.{slice_set}
-use Rattle.mr_seen.specs.State.{WorldState}
-use Rattle.mr_seen.specs.Worlds.{IsWorld}
+use Rattle.law_refinement.specs.State.{WorldState}
+use Rattle.law_refinement.specs.Worlds.{IsWorld}
 use Rattle.mr_world.specs.Linking.{BreaksOff, IsDialler}
 use Rattle.mr_world.proofs.Dialling.{drops_here, rests_here, slot_within}
 use Rattle.mr_world.proofs.parts.Parts.break_dialler.Goals as goal

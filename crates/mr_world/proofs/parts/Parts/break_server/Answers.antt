@@ -1,7 +1,7 @@
 use Rattle.std.proofs.Common.{rules, ◌≡◌, ◌<◌, ◌∙◌, length, true, false, sym, ap, subst}
 use Rattle.std.specs.Prelude.{slice_set}
-use Rattle.mr_seen.specs.State.{WorldState, Link, Slot}
-use Rattle.mr_seen.specs.Worlds.{IsWorld}
+use Rattle.law_refinement.specs.State.{WorldState, Link, Slot}
+use Rattle.law_refinement.specs.Worlds.{IsWorld}
 use Rattle.mr_world.specs.Calls.{Breaks}
 use Rattle.mr_world.proofs.Joins.{closes_here, idles_here, read_twice, server_there}
 use Rattle.mr_world.proofs.parts.Parts.break_server.Goals as goal

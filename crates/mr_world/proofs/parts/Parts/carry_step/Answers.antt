@@ -1,10 +1,10 @@
 use Rattle.std.proofs.Common.{rules, ◌≡◌, ◌<◌, inl, inr, ◌∙◌, not, Some, length, sym, ap, subst}
 use Rattle.std.specs.Prelude.{slice_get, slice_set}
-use Rattle.mr_seen.specs.State.{Link, WorldState}
-use Rattle.mr_seen.specs.Carrying.{booked_as, filed}
-use Rattle.mr_carrying.specs.Answering.{answered_links}
-use Rattle.mr_carrying.specs.Memory.{TakesMemory}
-use Rattle.mr_carrying.proofs.Places.{stands}
+use Rattle.law_refinement.specs.State.{Link, WorldState}
+use Rattle.law_refinement.specs.Carrying.{booked_as, filed}
+use Rattle.mr_world_parts.specs.Answering.{answered_links}
+use Rattle.mr_world_parts.specs.Memory.{TakesMemory}
+use Rattle.mr_world_parts.proofs.Places.{stands}
 use Rattle.mr_world.specs.Serving.{IsCarried}
 use Rattle.mr_world.proofs.Lacking.{where_err}
 use Rattle.mr_world.proofs.Servings.{carries_here, stops_here}

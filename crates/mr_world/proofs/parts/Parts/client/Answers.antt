@@ -1,6 +1,6 @@
 use Rattle.std.proofs.Common.{rules, ◌<◌, ◌++◌, ◌∷◌, [], ◌∙◌, List, length, sym, ap, subst, Err}
 use Rattle.mr_node.specs.Calls.{OpenRow}
-use Rattle.mr_seen.specs.State.{WorldState, Link}
+use Rattle.law_refinement.specs.State.{WorldState, Link}
 use Rattle.std.specs.Prelude.{slice_set}
 use Rattle.mr_world.specs.Calls.{Clients, Runs}
 use Rattle.mr_world.proofs.Joins.{came, rests_here, runs_here, same_slots, stops_here}

@@ -1,9 +1,9 @@
 use Rattle.std.proofs.Common.{rules, ◌≡◌, ◌<◌, ◌∙◌, length, sym, subst}
-use Rattle.mr_seen.specs.Way.{sent_on}
-use Rattle.mr_seen.specs.State.{WorldState, Link}
-use Rattle.mr_seen.proofs.Places.{some_is}
-use Rattle.mr_carrying.specs.AtLink.{IsAsking}
-use Rattle.mr_carrying.proofs.Places.{stands}
+use Rattle.law_refinement.specs.Way.{sent_on}
+use Rattle.law_refinement.specs.State.{WorldState, Link}
+use Rattle.law_refinement.proofs.Places.{some_is}
+use Rattle.mr_world_parts.specs.AtLink.{IsAsking}
+use Rattle.mr_world_parts.proofs.Places.{stands}
 use Rattle.mr_world.specs.Calls.{AsksAt, Sends, put_link}
 use Rattle.mr_world.proofs.Joins.{asks_here, same_links, sends_here}
 use Rattle.mr_world.proofs.parts.Parts.command.Goals as goal

@@ -1,11 +1,11 @@
 use Rattle.std.proofs.Common.{rules, ◌≡◌, ◌<◌, ◌++◌, ◌∷◌, [], ◌∙◌, true, Err, List, length, sym, ap, subst}
 use Rattle.std.specs.Prelude.{slice_set}
-use Rattle.mr_follow.specs.Handshake.{ping_line}
+use Rattle.mr_follower.specs.Handshake.{ping_line}
 use Rattle.mr_node.specs.Calls.{OpenRow}
-use Rattle.mr_seen.specs.Way.{no_way, sent_on}
-use Rattle.mr_seen.specs.State.{Link, Slot, WorldState}
-use Rattle.mr_seen.proofs.Places.{is_within}
-use Rattle.mr_carrying.specs.AtNode.{DialsBy}
+use Rattle.law_refinement.specs.Way.{no_way, sent_on}
+use Rattle.law_refinement.specs.State.{Link, Slot, WorldState}
+use Rattle.law_refinement.proofs.Places.{is_within}
+use Rattle.mr_world_parts.specs.AtNode.{DialsBy}
 use Rattle.mr_world.specs.Connecting.{BothRun, Dialled}
 use Rattle.mr_world.proofs.Meeting.{connects_here, read_of, same_again, same_none, server_stops_here, set_within, still_last, still_open, stood, stops_again, waits_alone, waits_replica}
 use Rattle.mr_world.proofs.parts.Parts.connect.Goals as goal

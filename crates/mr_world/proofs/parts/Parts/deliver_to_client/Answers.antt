@@ -1,6 +1,6 @@
 use Rattle.std.proofs.Common.{rules, ◌≡◌, ◌+◌, ◌<◌, ◌≤◌, length, refl, subst}
-use Rattle.mr_seen.specs.State.{WorldState, Link}
-use Rattle.mr_carrying.specs.AtLink.{IsAsking}
+use Rattle.law_refinement.specs.State.{WorldState, Link}
+use Rattle.mr_world_parts.specs.AtLink.{IsAsking}
 use Rattle.mr_world.specs.Calls.{Takes, WereNotSent, put_link}
 use Rattle.mr_world.proofs.Joins.{not_sent, read_twice, takes_here}
 use Rattle.mr_world.proofs.parts.Parts.deliver_to_client.Goals as goal

@@ -1,9 +1,9 @@
 use Rattle.std.proofs.Common.{rules, ◌≡◌, ◌+◌, ◌<◌, ◌≤◌, ◌∙◌, true, Err, length, refl, sym, ap, subst}
 use Rattle.std.specs.Prelude.{slice_set}
 use Rattle.mr_node.specs.Calls.{FeedRow}
-use Rattle.mr_seen.specs.State.{WorldState, Link}
-use Rattle.mr_seen.specs.Way.{taken_on}
-use Rattle.mr_seen.specs.Worlds.{IsWorld}
+use Rattle.law_refinement.specs.State.{WorldState, Link}
+use Rattle.law_refinement.specs.Way.{taken_on}
+use Rattle.law_refinement.specs.Worlds.{IsWorld}
 use Rattle.mr_world.specs.Linking.{IsDialler}
 use Rattle.mr_world.specs.Hearing.{KeepsTold, Tells, WereNotTold}
 use Rattle.mr_world.proofs.Joins.{read_twice, same_slots}

@@ -2,10 +2,10 @@ use Rattle.std.proofs.Common.{rules, ◌≡◌, ◌+◌, ◌<◌, ◌≤◌, ◌
 use Rattle.std.specs.Prelude.{slice_set}
 use Rattle.mr_links.specs.declared.link_id.LinkId.{LinkId}
 use Rattle.mr_node.specs.Calls.{FeedRow, FitsMore}
-use Rattle.mr_rows.specs.State.{IsTooMuch}
-use Rattle.mr_seen.specs.State.{WorldState, Link, Slot}
-use Rattle.mr_seen.specs.Way.{taken_on}
-use Rattle.mr_seen.specs.Worlds.{IsWorld}
+use Rattle.mr_node_spec.specs.State.{IsTooMuch}
+use Rattle.law_refinement.specs.State.{WorldState, Link, Slot}
+use Rattle.law_refinement.specs.Way.{taken_on}
+use Rattle.law_refinement.specs.Worlds.{IsWorld}
 use Rattle.mr_world.specs.Linking.{Delivers, IsOverfull, NeedsRoom}
 use Rattle.mr_world.proofs.Joins.{read_twice, same_slots, server_there}
 use Rattle.mr_world.proofs.Feeding.{counted, has_end, hears_here, needs_room, overfull, rests_unheard}

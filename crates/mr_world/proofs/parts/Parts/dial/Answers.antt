@@ -1,5 +1,5 @@
 use Rattle.std.proofs.Common.{rules, ◌≡◌, ◌<◌, ◌∙◌, true, false, length, sym, subst}
-use Rattle.mr_seen.specs.State.{Slot, WorldState}
+use Rattle.law_refinement.specs.State.{Slot, WorldState}
 use Rattle.mr_world.specs.Connecting.{BothRun, CanDial, Dialled}
 use Rattle.mr_world.proofs.Joins.{read_twice}
 use Rattle.mr_world.proofs.Meeting.{both, can, dialler_rests_here, server_rests_here}

@@ -1,7 +1,7 @@
 use Rattle.std.proofs.Common.{rules, ◌≡◌, ◌<◌, ◌≤◌, ℕ, length, subst}
 use Rattle.mr_links.specs.declared.link_id.LinkId.{LinkId}
-use Rattle.mr_seen.specs.State.{WorldState, a_node}
-use Rattle.mr_carrying.specs.AtNode.{IsFollowing}
+use Rattle.law_refinement.specs.State.{WorldState, a_node}
+use Rattle.mr_world_parts.specs.AtNode.{IsFollowing}
 use Rattle.mr_world.specs.Linking.{IsDialler, NoneFollows}
 use Rattle.mr_world.proofs.Dialling.{dialler_here, none_follows, none_of_client, none_there}
 use Rattle.mr_world.proofs.parts.Parts.dialler.Goals as goal

@@ -1,7 +1,7 @@
 use Rattle.std.proofs.Common.{rules, ◌≡◌, ◌<◌, ◌++◌, ◌∷◌, [], ◌∙◌, false, length, not, ap, refl, subst}
 use Rattle.std.specs.Prelude.{slice_set}
-use Rattle.mr_seen.specs.State.{BookEntry, WorldState}
-use Rattle.mr_carrying.specs.AtNode.{is_spent, IsLoaded}
+use Rattle.law_refinement.specs.State.{BookEntry, WorldState}
+use Rattle.mr_world_parts.specs.AtNode.{is_spent, IsLoaded}
 use Rattle.mr_world.specs.Restarting.{IsThere, Restarts}
 use Rattle.mr_world.proofs.Restarts.{restarts_here, there_is}
 use Rattle.mr_world.proofs.parts.Parts.restart.Goals as goal

@@ -1,8 +1,8 @@
 use Rattle.std.proofs.Common.{rules, ◌∙◌, Ok, Err, sym, ap, subst}
 use Rattle.std.specs.Prelude.{slice_set}
-use Rattle.mr_seen.specs.State.{WorldState}
-use Rattle.mr_seen.specs.Worlds.{IsWorld}
-use Rattle.mr_carrying.specs.Answering.{IsServing}
+use Rattle.law_refinement.specs.State.{WorldState}
+use Rattle.law_refinement.specs.Worlds.{IsWorld}
+use Rattle.mr_world_parts.specs.Answering.{IsServing}
 use Rattle.mr_world.specs.Serving.{IsCarried, NeedsMemory, Serves}
 use Rattle.mr_world.proofs.Servings.{behind_there, carries_there, idles_there, lacks_there, never_absent, never_closed, never_full, spends_there}
 use Rattle.mr_world.proofs.parts.Parts.step_at.Goals as goal

@@ -1,12 +1,12 @@
-use Rattle.std.proofs.Common.{rules, ◌≡◌, ◌<◌, ◌∙◌, Ok, Err, OnErr, false, length, refl, sym, ap, subst}
+use Rattle.std.proofs.Common.{rules, ◌≡◌, ◌<◌, ◌∙◌, Ok, Err, is_err, true, false, length, refl, sym, ap, subst}
 use Rattle.std.specs.Prelude.{slice_set}
 use Rattle.mr_node.specs.Steps.{MasterStep}
-use Rattle.mr_seen.specs.State.{WorldState}
-use Rattle.mr_seen.specs.Worlds.{IsWorld}
-use Rattle.mr_seen.specs.Carrying.{filed}
-use Rattle.mr_carrying.specs.AtNode.{is_spent}
-use Rattle.mr_carrying.specs.AtLink.{heard_by}
-use Rattle.mr_carrying.specs.Memory.{TakesMemory}
+use Rattle.law_refinement.specs.State.{WorldState}
+use Rattle.law_refinement.specs.Worlds.{IsWorld}
+use Rattle.law_refinement.specs.Carrying.{filed}
+use Rattle.mr_world_parts.specs.AtNode.{is_spent}
+use Rattle.mr_world_parts.specs.AtLink.{heard_by}
+use Rattle.mr_world_parts.specs.Memory.{TakesMemory}
 use Rattle.mr_world.specs.Following.{Follows, HasLacked, IsFollower}
 use Rattle.mr_world.specs.Linking.{IsDialler}
 use Rattle.mr_world.proofs.Dialling.{rests_here, slot_within}
@@ -48,10 +48,10 @@ returns-then-is_err c =
     let fresh : is_spent c.args.self.now.book c.args.fresh ≡ false = search rules in
     let row = subst (λ r. MasterStep who.slot.node c.in-Some.name c.step.new.self.node r) (c.in-Ok-Done.is ∙ ap Ok c.in-Ok-Done.field-0-is)
     (comes_to w c.args.l c.in-Some.n c.in-Some.name world who c.index_mut.result.now c.step.new.self c.index_mut.ensures.value c.step.ensures.rest c.args.given c.args.fresh c.step.result c.step.ensures.row) in
-    let slot : c.give_heard-heard.new.slot ≡ c.index_mut-in-Ok-Done.result.now = search rules in
-    let link : c.give_heard-heard.new.link ≡ c.index_mut-in-Ok-Done-2.result.now = search rules in
-    let told : OnErr c.give_heard-heard.result (TakesMemory c.in-Ok-Done.outs) = search rules in
-    let takes : TakesMemory c.in-Ok-Done.outs = where_err c.give_heard-heard.result (TakesMemory c.in-Ok-Done.outs) (sym c.is_err.ensures.value ∙ c.if-is_err.true) told in
+    let err : is_err c.give_heard-heard.result ≡ true = sym c.is_err.ensures.value ∙ c.if-is_err.true in
+    let slot : c.give_heard-heard.new.slot ≡ c.index_mut-in-Ok-Done.result.now = where_err c.give_heard-heard.result (c.give_heard-heard.new.slot ≡ c.index_mut-in-Ok-Done.result.now) err c.give_heard-heard.ensures.no_file in
+    let link : c.give_heard-heard.new.link ≡ c.index_mut-in-Ok-Done-2.result.now = where_err c.give_heard-heard.result (c.give_heard-heard.new.link ≡ c.index_mut-in-Ok-Done-2.result.now) err c.give_heard-heard.ensures.no_link in
+    let takes : TakesMemory c.in-Ok-Done.outs = where_err c.give_heard-heard.result (TakesMemory c.in-Ok-Done.outs) err c.give_heard-heard.ensures.memory in
     let links : slice_set c.self.inside.links.items c.args.l c.give_heard-heard.new.link ≡ c.self.inside.links.items = put_same c.self.inside.links.items c.args.l c.index_mut-in-Ok-Done-2.result.now c.give_heard-heard.new.link c.index_mut-in-Ok-Done-2.ensures.value link in (
       fresh,
       subst (λ (z : WorldState). Follows z c.args.l (record w { slots = slice_set (slice_set (slice_set w.slots c.in-Some.n c.step.new.self) c.in-Some.n c.give_heard-heard.new.slot) c.in-Some.n c.fail.new.self; links = slice_set w.links c.args.l c.give_heard-heard.new.link })) c.self.view_is
@@ -100,12 +100,12 @@ returns-else-is_err c =
     let row = subst (λ r. MasterStep who.slot.node c.in-Some.name c.step.new.self.node r) (c.in-Ok-Done.is ∙ ap Ok c.in-Ok-Done.field-0-is)
     (comes_to w c.args.l c.in-Some.n c.in-Some.name world who c.index_mut.result.now c.step.new.self c.index_mut.ensures.value c.step.ensures.rest c.args.given c.args.fresh c.step.result c.step.ensures.row) in
     let slot : c.give_heard-heard.new.slot ≡ record c.index_mut-in-Ok-Done.result.now { file = filed c.in-Ok-Done.outs c.index_mut-in-Ok-Done.result.now.file } = search rules in
-    let link : c.give_heard-heard.new.link ≡ heard_by c.unread-left.result c.in-Ok-Done.outs.reply c.index_mut-in-Ok-Done-2.result.now = search rules in (
+    let link : c.give_heard-heard.new.link ≡ heard_by c.unread_of_master-left.result c.in-Ok-Done.outs.reply c.index_mut-in-Ok-Done-2.result.now = search rules in (
       fresh,
       subst (λ (z : WorldState). Follows z c.args.l (record w { slots = slice_set (slice_set w.slots c.in-Some.n c.step.new.self) c.in-Some.n c.give_heard-heard.new.slot; links = slice_set w.links c.args.l c.give_heard-heard.new.link })) c.self.view_is
           (carried w c.args.l c.in-Some.n c.in-Some.name world who c.index_mut.result.now c.step.new.self c.index_mut.ensures.value c.step.ensures.rest row.0 row.1 c.in-Ok-Done.outs row.2 c.step.ensures.sound
-          c.index-in-Ok-Done.result.now c.index_mut-in-Ok-Done.result.now c.give_heard-heard.new.slot c.unread-left.result c.index_mut-in-Ok-Done-2.result.now c.give_heard-heard.new.link
-          c.index-in-Ok-Done.ensures c.unread-left.ensures c.index_mut-in-Ok-Done.ensures.value slot c.index_mut-in-Ok-Done-2.ensures.value link),
+          c.index-in-Ok-Done.result.now c.index_mut-in-Ok-Done.result.now c.give_heard-heard.new.slot c.unread_of_master-left.result c.index_mut-in-Ok-Done-2.result.now c.give_heard-heard.new.link
+          c.index-in-Ok-Done.ensures c.unread_of_master-left.ensures.alone c.unread_of_master-left.ensures.there c.index_mut-in-Ok-Done.ensures.value slot c.index_mut-in-Ok-Done-2.ensures.value link),
     )
 
 pub returns-in-Ok-Idle : goal.returns-in-Ok-Idle

@@ -1,8 +1,8 @@
 use Rattle.std.proofs.Common.{rules, ◌≡◌, ◌<◌, ◌∙◌, true, false, length, sym, subst}
-use Rattle.mr_seen.specs.State.{WorldState}
-use Rattle.mr_seen.specs.Worlds.{IsWorld}
-use Rattle.mr_carrying.specs.AtNode.{is_spent}
-use Rattle.mr_carrying.specs.Answering.{IsServing}
+use Rattle.law_refinement.specs.State.{WorldState}
+use Rattle.law_refinement.specs.Worlds.{IsWorld}
+use Rattle.mr_world_parts.specs.AtNode.{is_spent}
+use Rattle.mr_world_parts.specs.Answering.{IsServing}
 use Rattle.mr_world.specs.Serving.{Serves}
 use Rattle.mr_world.proofs.Joins.{server_there}
 use Rattle.mr_world.proofs.Servings.{rests_there, serving_there}

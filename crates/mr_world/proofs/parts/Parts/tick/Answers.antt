@@ -1,9 +1,9 @@
 use Rattle.std.proofs.Common.{rules, ◌≡◌, ◌<◌, ◌∙◌, Err, length, map, sym, ap, subst}
 use Rattle.std.specs.Prelude.{slice_set}
-use Rattle.mr_seen.specs.State.{Slot, WorldState}
-use Rattle.mr_seen.specs.Carrying.{booked_as, filed, reached, said_on}
+use Rattle.law_refinement.specs.State.{Slot, WorldState}
+use Rattle.law_refinement.specs.Carrying.{booked_as, filed, reached, said_on}
 use Rattle.mr_node.specs.Calls.{TickStep}
-use Rattle.mr_carrying.specs.Memory.{TakesMemory}
+use Rattle.mr_world_parts.specs.Memory.{TakesMemory}
 use Rattle.mr_world.specs.Calls.{Runs}
 use Rattle.mr_world.specs.Stepping.{Ticks}
 use Rattle.mr_world.proofs.Joins.{read_twice}

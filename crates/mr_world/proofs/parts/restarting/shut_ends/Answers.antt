@@ -1,7 +1,7 @@
 use Rattle.std.proofs.Common.{sym, ◌∙◌, ap}
 use Rattle.std.specs.Prelude.{slice_set}
 use Rattle.std.proofs.lemmas.List.Edits.{map_over_more}
-use Rattle.mr_carrying.specs.AtLink.{shut_at}
+use Rattle.mr_world_parts.specs.AtLink.{shut_at}
 use Rattle.mr_world.proofs.parts.restarting.shut_ends.Goals as goal
 
 pub loop-k-preserved : goal.loop-k-preserved

@@ -1,5 +1,5 @@
 use Rattle.std.proofs.Common.{◌≡◌, ◌++◌, map, take, drop}
-use Rattle.mr_carrying.specs.AtLink.{shut_at}
+use Rattle.mr_world_parts.specs.AtLink.{shut_at}
 use Rattle.mr_world.proofs.parts.restarting.shut_ends.Given as goal
 
 abbrev pub invariant-loop-k : goal.invariant-loop-k

@@ -1,6 +1,6 @@
 use Rattle.std.proofs.Common.{◌+◌, take, refl, sym, ap, subst, ◌∙◌}
 use Rattle.std.specs.Prelude.{slice_get}
-use Rattle.mr_carrying.proofs.Places.{stands}
+use Rattle.mr_world_parts.proofs.Places.{stands}
 use Rattle.mr_world.specs.Running.{EventCall, TookAll}
 use Rattle.mr_world.proofs.Taken.{took_none, took_more, took_all}
 use Rattle.mr_world.proofs.world.World.run.Goals as goal

@@ -1,5 +1,0 @@
-pub mod State
-pub mod Progresses
-pub mod Ending
-pub mod Replicas
-pub mod Parts

@@ -1,8 +1,0 @@
-use Rattle.mr_filing.proofs.Clients.{replica_keeps, idle_keeps}
-use Rattle.mr_filing.proofs.laws.other_steps_keep.Goals as goal
-
-pub returns-clause-replicas : goal.returns-clause-replicas
-returns-clause-replicas c = replica_keeps
-
-pub returns-clause-idle : goal.returns-clause-idle
-returns-clause-idle c = idle_keeps

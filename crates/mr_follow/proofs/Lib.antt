@@ -1,5 +1,0 @@
-pub mod Loadings
-pub mod Fronts
-pub mod Stepping
-pub mod Followings
-pub mod Honest

@@ -1,8 +1,0 @@
-use Rattle.mr_follow.proofs.Honest.{taken, whole}
-use Rattle.mr_follow.proofs.laws.snapshot_is_taken.Goals as goal
-
-pub returns-clause-taken : goal.returns-clause-taken
-returns-clause-taken c = taken
-
-pub returns-clause-whole : goal.returns-clause-whole
-returns-clause-whole c = whole

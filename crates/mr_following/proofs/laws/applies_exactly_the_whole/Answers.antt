@@ -1,5 +1,0 @@
-use Rattle.mr_following.proofs.Following.{exactly_the_whole}
-use Rattle.mr_following.proofs.laws.applies_exactly_the_whole.Goals as goal
-
-pub returns : goal.returns
-returns c = exactly_the_whole

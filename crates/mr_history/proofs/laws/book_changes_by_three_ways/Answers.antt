@@ -1,5 +1,0 @@
-use Rattle.mr_history.proofs.Refusals.{book_changes}
-use Rattle.mr_history.proofs.laws.book_changes_by_three_ways.Goals as goal
-
-pub returns : goal.returns
-returns g c = book_changes

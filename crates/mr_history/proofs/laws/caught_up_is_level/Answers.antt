@@ -1,5 +1,0 @@
-use Rattle.mr_history.proofs.Headline.{caught_up_is_level}
-use Rattle.mr_history.proofs.laws.caught_up_is_level.Goals as goal
-
-pub returns : goal.returns
-returns g c = caught_up_is_level g.R.Replicated.laws

@@ -1,5 +1,0 @@
-use Rattle.mr_history.proofs.Headline.{invariant_holds}
-use Rattle.mr_history.proofs.laws.invariant_holds.Goals as goal
-
-pub returns : goal.returns
-returns g c = invariant_holds g.R.Replicated.laws

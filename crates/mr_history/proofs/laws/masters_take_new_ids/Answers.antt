@@ -1,5 +1,0 @@
-use Rattle.mr_history.proofs.Refusals.{masters_take_new_ids}
-use Rattle.mr_history.proofs.laws.masters_take_new_ids.Goals as goal
-
-pub returns : goal.returns
-returns g c = masters_take_new_ids

@@ -1,5 +1,0 @@
-use Rattle.mr_history.proofs.Headline.{no_silent_difference}
-use Rattle.mr_history.proofs.laws.no_silent_difference.Goals as goal
-
-pub returns : goal.returns
-returns g c = no_silent_difference g.R.Replicated.laws

@@ -1,5 +1,0 @@
-use Rattle.mr_history.proofs.Refusals.{parts_change_nothing}
-use Rattle.mr_history.proofs.laws.parts_change_nothing.Goals as goal
-
-pub returns : goal.returns
-returns g c = parts_change_nothing

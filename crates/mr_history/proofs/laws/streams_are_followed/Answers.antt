@@ -1,5 +1,0 @@
-use Rattle.mr_history.proofs.Refusals.{streams_are_followed}
-use Rattle.mr_history.proofs.laws.streams_are_followed.Goals as goal
-
-pub returns : goal.returns
-returns g c = streams_are_followed

@@ -1,5 +1,0 @@
-use Rattle.mr_history.proofs.Headline.{true_to_history}
-use Rattle.mr_history.proofs.laws.true_to_history.Goals as goal
-
-pub returns : goal.returns
-returns g c = true_to_history g.R.Replicated.laws

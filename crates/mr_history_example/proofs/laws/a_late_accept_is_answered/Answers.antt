@@ -1,5 +1,0 @@
-use Rattle.mr_history_example.proofs.LateAcceptRun.{is_answered_late}
-use Rattle.mr_history_example.proofs.laws.a_late_accept_is_answered.Goals as goal
-
-pub returns : goal.returns
-returns c = is_answered_late

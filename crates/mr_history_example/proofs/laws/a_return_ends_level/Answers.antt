@@ -1,5 +1,0 @@
-use Rattle.mr_history_example.proofs.StoryRun.{ends_level}
-use Rattle.mr_history_example.proofs.laws.a_return_ends_level.Goals as goal
-
-pub returns : goal.returns
-returns c = ends_level

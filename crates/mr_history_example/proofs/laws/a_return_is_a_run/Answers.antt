@@ -1,5 +1,0 @@
-use Rattle.mr_history_example.proofs.StoryRun.{story_is_a_run}
-use Rattle.mr_history_example.proofs.laws.a_return_is_a_run.Goals as goal
-
-pub returns : goal.returns
-returns c = story_is_a_run

@@ -1,5 +1,0 @@
-use Rattle.mr_history_example.proofs.LateAcceptRun.{late_accepts_are_a_run}
-use Rattle.mr_history_example.proofs.laws.late_accepts_are_a_run.Goals as goal
-
-pub returns : goal.returns
-returns c = late_accepts_are_a_run

@@ -1,5 +1,0 @@
-use Rattle.mr_history_example.proofs.TroublesRun.{ends_anew}
-use Rattle.mr_history_example.proofs.laws.trouble_ends_anew.Goals as goal
-
-pub returns : goal.returns
-returns c = ends_anew

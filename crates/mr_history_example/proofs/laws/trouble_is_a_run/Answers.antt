@@ -1,5 +1,0 @@
-use Rattle.mr_history_example.proofs.TroublesRun.{troubles_are_a_run}
-use Rattle.mr_history_example.proofs.laws.trouble_is_a_run.Goals as goal
-
-pub returns : goal.returns
-returns c = troubles_are_a_run

@@ -1,8 +1,0 @@
-use Rattle.mr_language.proofs.Opened.{writes_wait, writes_mark}
-use Rattle.mr_language.proofs.laws.writes_wait_at_masters.Goals as goal
-
-pub returns-clause-masters : goal.returns-clause-masters
-returns-clause-masters c = writes_wait
-
-pub returns-clause-replicas : goal.returns-clause-replicas
-returns-clause-replicas c = writes_mark

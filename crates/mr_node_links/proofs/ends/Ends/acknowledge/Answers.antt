@@ -1,0 +1,17 @@
+use Rattle.std.proofs.Common.{◌≡◌, Some, sym, ◌∙◌}
+use Rattle.std.specs.FinMap.{get}
+use Rattle.mr_node_links.proofs.Naming.{same_lists}
+use Rattle.mr_node_links.proofs.Places.{same_links}
+use Rattle.mr_node_links.proofs.ends.Ends.acknowledge.Goals as goal
+
+pub invariant_of-self-2 : goal.invariant_of-self-2
+invariant_of-self-2 c =
+    let i = c.self.inside in
+    let here : get i.links.open_links c.args.link ≡ Some c.in-Some.end.now = sym c.in-Some.ensures.value in
+    same_lists i.replicas.items i.links.open_links c.args.link c.in-Some.end.now c.acknowledge.new.self c.self.invariant here c.acknowledge.ensures
+
+pub returns : goal.returns
+returns c =
+    let i = c.self.inside in
+    let here : get i.links.open_links c.args.link ≡ Some c.in-Some.end.now = sym c.in-Some.ensures.value in
+    same_links i.links c.args.link c.in-Some.end.now c.acknowledge.new.self here c.acknowledge.ensures ∙ c.self.view_is

@@ -1,0 +1,6 @@
+pub mod State
+pub mod Progresses
+pub mod Ending
+pub mod Replicas
+pub mod Parts
+pub mod Introductions

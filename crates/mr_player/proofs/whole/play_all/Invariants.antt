@@ -1,8 +1,0 @@
-use Rattle.std.proofs.Common.{ℕ, []}
-use Rattle.mr_seen.specs.Worlds.{no_world}
-use Rattle.mr_player.specs.Staging.{IsOnStage, Reads}
-use Rattle.mr_player.proofs.whole.play_all.Given as goal
-
-abbrev pub invariant-loop-round : goal.invariant-loop-round
-invariant-loop-round g l = (size : ℕ) → IsOnStage size no_world [] l.fn.stage
-    → Reads size no_world (g.R.Read.remaining l.fn.input) (g.R.Read.remaining l.input) (g.W.Write.contents l.fn.output) l.stage (g.W.Write.contents l.output)

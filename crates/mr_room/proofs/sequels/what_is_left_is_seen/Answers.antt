@@ -1,5 +1,0 @@
-use Rattle.mr_room.proofs.AfterAndReply.{next_sees}
-use Rattle.mr_room.proofs.sequels.what_is_left_is_seen.Goals as goal
-
-pub returns : goal.returns
-returns c = next_sees

@@ -1,8 +1,0 @@
-use Rattle.std.proofs.Common.{◌∙◌, ap}
-use Rattle.std.specs.Prelude.{find}
-use Rattle.mr_script.specs.Reading.{is_named, named}
-use Rattle.mr_script.proofs.event_name.EventName.of.Goals as goal
-
-pub returns : goal.returns
-unfolding named
-returns c = c.among.ensures ∙ ap (find (is_named c.args.word.now)) c.all.ensures

@@ -1,8 +1,0 @@
-use Rattle.mr_seen.proofs.Linking.{opens, open_stops}
-use Rattle.mr_seen.proofs.laws.opens_are_rows.Goals as goal
-
-pub returns-clause-opens : goal.returns-clause-opens
-returns-clause-opens c = opens
-
-pub returns-clause-stops : goal.returns-clause-stops
-returns-clause-stops c = open_stops

@@ -1,8 +1,0 @@
-use Rattle.mr_seen.proofs.Waiting.{lacks_keep, waits_keep}
-use Rattle.mr_seen.proofs.laws.waits_keep_worlds.Goals as goal
-
-pub returns-clause-waits : goal.returns-clause-waits
-returns-clause-waits c = waits_keep
-
-pub returns-clause-lacks : goal.returns-clause-lacks
-returns-clause-lacks c = lacks_keep

@@ -1,8 +1,0 @@
-use Rattle.std.proofs.Common.{None}
-use Rattle.mr_state.proofs.Changes.{promotes_node}
-use Rattle.mr_state.proofs.state.State.promote.Goals as goal
-
-pub invariant_of-self : goal.invariant_of-self
-invariant_of-self c =
-    let i = c.self.inside in
-    promotes_node i.up i.port i.upstream i.mark i.course i.held i.ends c.self.invariant c.args.fresh None None c.promote.new.self c.name.result c.remove_one.new.ends c.promote.ensures c.name.ensures.value c.remove_one.ensures

@@ -1,5 +1,0 @@
-use Rattle.mr_turns.proofs.Keeping.{turns_leave_whole}
-use Rattle.mr_turns.proofs.laws.turns_leave_files_whole.Goals as goal
-
-pub returns : goal.returns
-returns c = turns_leave_whole

@@ -1,0 +1,6 @@
+use Rattle.std.proofs.Common.{◌≡◌, ◌++◌, map, take, drop}
+use Rattle.mr_world_parts.specs.Undoing.{shut_by}
+use Rattle.mr_world_parts.proofs.carry.shut_all.Given as goal
+
+abbrev pub invariant-loop-k : goal.invariant-loop-k
+invariant-loop-k l = l.links ≡ map (shut_by l.n l.outs) (take l.k-index l.fn.links) ++ drop l.k-index l.fn.links

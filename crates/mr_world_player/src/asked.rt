@@ -1,0 +1,113 @@
+// What a line asks of a World.
+ghost use Rattle.std.specs.Prelude.{◌≡◌, IfOk, take, slice_get};
+ghost use Rattle.mr_world_script.specs.Reading.{said_of};
+ghost use Rattle.mr_world_player.specs.Asking.{file_at, IsAsked, IsBacklog, IsConfig, script_side};
+
+use mr_node::Config;
+use mr_world::{Event, Side, World};
+use mr_world_script::Line;
+use std::alloc::{AllocError, Global};
+
+/// What a line asks of a World.
+#[derive(Drop)]
+pub(crate) enum Asked {
+    /// Nothing.
+    Nothing,
+    /// That an event happens.
+    Event(Event),
+    /// What a node shows.
+    Show(usize),
+    /// What the client of a link took.
+    Got(usize),
+}
+
+/// The side that a script names.
+fn side_of(side: mr_world_script::Side) -> Side
+    ensures { script_side result ≡ side }
+{
+    match side {
+        mr_world_script::Side::Opener => Side::Opener,
+        mr_world_script::Side::Server => Side::Server,
+    }
+}
+
+/// What a node of a script starts with: it has no port.
+fn config_of(is_replica: bool, backlog: usize) -> Config
+    requires { IsBacklog backlog }
+    ensures role { result.replica ≡ is_replica }
+    ensures rest { IsConfig backlog result }
+{
+    let Some(config) = Config::new(is_replica, 0, backlog) else {
+        unreachable!()
+    };
+    config
+}
+
+/// So many bytes of a node's file, or all where it has fewer; none where there is no such node.
+fn kept_of(alloc: Global, world: &World, node: usize, count: usize) -> Result<Vec<u8>, AllocError>
+    ensures { IfOk result (λ kept.
+        kept.items ≡ take count (file_at (slice_get world.now.slots node))) }
+{
+    match world.file(node) {
+        Some(file) => Vec::from_slice(alloc, &file[..count.min(file.len())]),
+        None => Ok(Vec::new(alloc)),
+    }
+}
+
+/// What a line asks of a World whose nodes start with this backlog.
+pub(crate) fn asked_by(
+    alloc: Global,
+    world: &World,
+    backlog: usize,
+    line: Line,
+) -> Result<Asked, AllocError>
+    requires { IsBacklog backlog }
+    ensures { IfOk result (IsAsked backlog world.now (said_of line)) }
+{
+    let event = match line {
+        Line::Blank => return Ok(Asked::Nothing),
+        Line::Show { node } => return Ok(Asked::Show(node)),
+        Line::Got { link } => return Ok(Asked::Got(link)),
+        Line::Dial { node, to } => Event::Dial { node, to },
+        Line::Start { id, is_replica } => {
+            let config = config_of(is_replica, backlog);
+            Event::Start { id, config }
+        }
+        Line::Client { node } => Event::Client { node },
+        Line::Command { link, bytes } => Event::Command { link, bytes },
+        Line::Deliver { link, side, count } => {
+            let side = side_of(side);
+            Event::Deliver { link, side, count }
+        }
+        Line::Step {
+            link,
+            side,
+            given,
+            fresh,
+        } => {
+            let side = side_of(side);
+            Event::Step {
+                link,
+                side,
+                given,
+                fresh,
+            }
+        }
+        Line::Tick { node, given } => Event::Tick { node, given },
+        Line::Break { link, side } => {
+            let side = side_of(side);
+            Event::Break { link, side }
+        }
+        Line::Restart { node, count, id } => {
+            let kept = kept_of(alloc, world, node, count)?;
+            let config = config_of(false, backlog);
+            Event::Restart {
+                node,
+                kept,
+                id,
+                config,
+            }
+        }
+    };
+    Ok(Asked::Event(event))
+}
