@@ -18,6 +18,8 @@ NO_ID = b"0" * 40
 HEARTBEAT, ACKNOWLEDGEMENT = 10_000, 1_000
 # of a peer's line, its first byte with it, before the `\r`
 MOST_OF_A_PEERS_LINE = 1_024
+# of a port and of an address, as REPLCONF tells them
+LONGEST = {b"LISTENING-PORT": 5, b"IP-ADDRESS": 255}
 STARTED = b"+Background append only file rewriting started\r\n"
 CHAINED = b"-ERR replicas are not chained\r\n"
 LIMIT = b"-ERR offset limit\r\n"
@@ -482,7 +484,8 @@ class Node:
         end = self.ends[link]
         if self.acknowledges(end, words):
             return []
-        end.said.update(zip(options_of(words), words[2::2]))
+        # what is longer than a port or an address can be isn't kept
+        end.said.update((name, text) for name, text in zip(options_of(words), words[2::2]) if len(text) <= LONGEST.get(name, 0))
         return [Send(link, OK)]
 
     def continues(self, id, wanted):

@@ -18,15 +18,23 @@ SAID = ("**A contract sees**", "**Claims**")
 LEFT_OPEN = ("ot claimed", "#what-all-rooms-share")
 LINK = re.compile(r"\]\(([^)#\s]+)?(#[^)\s]+)?\)")
 # a path of the repository, as it is named in a page
-NAMED = re.compile(r"`((?:crates/)?(?:mr_\w+|minired|rehearse\w*)/(?:src|specs|proofs|must-fail)/[\w/.-]+|(?:docs|tests|tools|bench)/[\w/.-]+\.\w+)`")
+NAMED = re.compile(r"`((?:crates/)?(?:(?:mr|law)_\w+|minired|rehearse\w*)/(?:src|specs|proofs|must-fail)/[\w/.-]+|(?:docs|tests|tools|bench)/[\w/.-]+\.\w+)`")
 # a file of tests by its name alone, and behind it classes, and tests without what all their names begin with
 NAMED_TESTS = re.compile(r"`(test_\w+)`((?:,? (?:`[A-Z]\w+`|[a-z]+_\w+(?:\.\.)?))*)")
 # a crate by its name, or several by what their names begin with and a star
-NAMED_CRATE = re.compile(r"\b(mr_\w+)(\*?)")
+NAMED_CRATE = re.compile(r"\b((?:mr|law)_\w+)(\*?)")
+# the head of a floor in crates.txt
+FLOOR = re.compile(r"# \w+: ")
+# what declares no more than names: attributes, modules, imports, types that hold nothing, and what a type says of itself for proofs alone
+DECLARED = re.compile(r"#!?\[[^\]]*\]|(?:pub )?mod \w+;|(?:pub )?(?:ghost )?use [^;]*;|pub struct \w+;|ghost \w+(?::| =) \{[^{}]*\};")
+# a trait or an implementation in which nothing is left
+EMPTY = re.compile(r"(?:pub trait|impl)[^{;]*\{\s*\}")
+# a function without a body, or with that of another law
+LAW = re.compile(r"pub fn \w+(?:<[^>]*>)?\(\)[^{]*(?:\{[^{}]*\}[^{}]*)*?\{(?:\s*\w+(?:::<\w+>)?\(\)\s*)?\}")
 # what of the tests is named as Python finds it
 DOTTED = re.compile(r"\btests((?:\.\w+)+)")
 # a crate whose edits are named behind it, or an edit; a star stands for all that begin so
-EDIT = re.compile(r"`(mr_\w+|minired)`|(?<![\w`./:])([a-z][a-z0-9]*(?:_[a-z0-9]+)*_\*|[a-z][a-z0-9]*(?:_[a-z0-9]+)+)(?![\w*`])")
+EDIT = re.compile(r"`((?:mr|law)_\w+|minired)`|(?<![\w`./:])([a-z][a-z0-9]*(?:_[a-z0-9]+)*_\*|[a-z][a-z0-9]*(?:_[a-z0-9]+)+)(?![\w*`])")
 
 # what stands right above a function's head: its comments and its attributes
 ABOVE = re.compile(r" *(?://|#\[)")
@@ -93,7 +101,7 @@ class Links(unittest.TestCase):
         lost = []
         for page, text in pages().items():
             for path in NAMED.findall(text):
-                whole = os.path.join("crates", path) if path.startswith(("mr_", "minired", "rehearse")) else path
+                whole = os.path.join("crates", path) if path.startswith(("mr_", "law_", "minired", "rehearse")) else path
                 if "*" not in path and "NAME" not in path and "must-fail" not in path and not there(whole):
                     lost.append((page, path))
         self.assertEqual(lost, [])
@@ -116,7 +124,7 @@ class Crates(unittest.TestCase):
     def test_each_file_of_code_stands_in_the_page_of_its_crate(self):
         """But for files that only declare a type, and the programs for tests."""
         texts, lost = pages(), []
-        for path in found("crates/m*/src/**/*.rt"):
+        for path in found("crates/[lm]*/src/**/*.rt"):
             crate, name = re.fullmatch(r"crates/(\w+)/src/(.*)", path).groups()
             if name not in ("lib.rt", "main.rt") and re.search(r"\bfn \w", read(path)) and f"`{name}`" not in texts[f"crates/{crate}/README.md"]:
                 lost.append((crate, name))
@@ -128,6 +136,26 @@ class Crates(unittest.TestCase):
         self.assertEqual(re.findall(r"\w+", " ".join(rows)), crates)
         promising = re.findall(r"^\| \[`(\w+)`\]", read("docs/PROMISES.md"), re.M)
         self.assertEqual(promising, [it for it in crates if it in promising])
+
+    def test_a_crate_uses_its_own_floor_and_lower_ones_only(self):
+        self.assertEqual(used_above(read("crates.txt")), [])
+
+    def test_which_uses_lead_up_a_floor(self):
+        listed = "# All.\n\n# low: one\na:\nb: a itoa\n\n# high: another\nc: b  # and a\n"
+        self.assertEqual(used_above(listed), [])
+        self.assertEqual(used_above(listed.replace("b: a itoa", "b: c itoa")), [("b", "c")])
+
+    def test_laws_do_nothing(self):
+        """A crate of laws has functions that ensure something and have no body, and nothing else."""
+        texts = {path: read(path) for path in found("crates/law_*/src/**/*.rt")}
+        self.assertTrue(texts)
+        self.assertEqual([path for path, text in texts.items() if does_something(text)], [])
+
+    def test_what_does_something(self):
+        law = "//! Laws.\n\n/// It holds.\npub fn it_holds<R: Replicated>()\n    ensures { ItHolds }\n{}\n"
+        self.assertFalse(does_something(law))
+        for doing in ("pub fn it() {\n    go();\n}\n", "pub struct It(u8);\n", "const ONE: u8 = 1;\n"):
+            self.assertTrue(does_something(law + doing))
 
     def test_each_crate_that_a_page_names_is_there(self):
         crates = crates_in(read("crates.txt"))
@@ -146,6 +174,22 @@ class Crates(unittest.TestCase):
 def crates_in(text):
     """The names of the crates that this text of crates.txt lists."""
     return re.findall(r"^(\w+):", text, re.M)
+
+
+def used_above(text):
+    """The uses of a crate of a higher floor in this text of crates.txt, whose floors are sections; a section begins with its name, a colon and what it is."""
+    floors, floor = {}, 0
+    for line in text.split("\n"):
+        floor += bool(FLOOR.match(line))
+        floors.update((name, floor) for name in crates_in(line))
+    uses = [line.split("#")[0].partition(":") for line in text.split("\n")]
+    return [(name, it) for name, _, below in uses if name for it in below.split() if floors.get(it, 0) > floors[name]]
+
+
+def does_something(text):
+    """Whether a file of Rattle has more than names, and functions that only ensure something."""
+    plain = re.sub(r"//.*", "", text)
+    return bool(LAW.sub("", EMPTY.sub("", DECLARED.sub("", plain))).strip())
 
 
 def lost_crates(crates, text):

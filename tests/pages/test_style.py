@@ -9,20 +9,20 @@ import unittest
 from tests.sources import FUNCTION, Sources
 from tests.support.program import ROOT
 
-# how many functions a crate has at most, and how many rows a file, and the body of a function
-FUNCTIONS, ROWS, BODY = 100, 800, 39
+# how many functions a crate has at most, and how many rows a file, and the body of a function; how many columns a row of a clause
+FUNCTIONS, ROWS, BODY, COLUMNS = 100, 800, 39, 100
 EXCUSED = {
     "functions": {
         "rehearse_values": 201,  # a program for tests: calls on each kind of value
         "mr_order": 153,  # one structure in levels, and its searches
-        "minired": 137,  # what a program does with what it is handed, of four kinds
+        "minired": 133,  # what a program does with what it is handed, of four kinds
         "mr_value": 118,  # lists, hashes, sets and their bytes: kinds of one value
         "mr_node": 115,  # each call on a node, by the one invariant below it
-        "mr_loop": 118,  # a turn, whose steps share one clause
-        "mr_entries": 102,  # what each effect makes of each kind of value
+        "mr_loop": 129,  # a turn, whose steps share one clause
+        "mr_keyspace": 111,  # what each effect makes of each kind of value, and the order of deadlines beside them
     },
     "rows": {
-        "crates/mr_history_example/specs/Troubles.antt": 850,  # a run, moment by moment
+        "crates/law_protocol_example/specs/Troubles.antt": 850,  # a run, moment by moment
         "tests/support/world_rows.py": 1100,  # a table
         "tests/server/test_aof.py": 1000,  # the file in all that can happen to it
         "tests/server/test_serve.py": 900,  # the server, likewise
@@ -35,31 +35,33 @@ EXCUSED = {
         "mr_arguments fault::wrong_count": 114,
         "mr_ask reading::read_arguments": 114,
         "mr_effect encoding::push_effect": 77,
-        "mr_outs out::OutsIterIterator::next": 70,  # each place at which something may be given out
-        "mr_entries entries::Entries::copy": 60,
-        "mr_entries entries::Entries::take": 58,
+        "mr_node_output out::OutsIterIterator::next": 70,  # each place at which something may be given out
+        "mr_keyspace entries::Entries::copy": 60,
+        "mr_keyspace entries::Entries::take": 58,
         "mr_cmd_zset planning::change": 53,
         "mr_cmd_key planning::reply_to": 49,
         "mr_effect effect::Effect::fits": 48,
-        "mr_player asked::asked_by": 46,
+        "mr_world_player asked::asked_by": 46,
         "mr_cmd_list planning::answer_of": 40,
     },
     # a name that a crate exports, as one that it uses does, and why each may
     "names": {
-        "mr_script Side mr_bytes": "of a link, as scripts call it; there of an item",
-        "mr_carrying Side mr_bytes": "of a link, as the specification calls it; there of an item",
+        "mr_world_script Side mr_bytes": "of a link, as scripts call it; there of an item",
+        "mr_world_parts Side mr_bytes": "of a link, as the specification calls it; there of an item",
         "mr_loop Links mr_links": "a loop's, by sockets; there of a node, of any kind",
         "mr_wire Failed mr_file": "that a wire failed, said in one word as of a file",
     },
     # how many lemmas a file of definitions has, since a ghost member or a clause feeds on them
     "lemmas": {
         "crates/mr_zset/specs/Limits.antt": 14,
-        "crates/mr_history_example/specs/TinyLaws.antt": 12,
+        "crates/law_protocol_example/specs/TinyLaws.antt": 12,
         "crates/mr_resp/specs/Usual.antt": 8,
-        "crates/mr_carrying/specs/Codes.antt": 1,
-        "crates/mr_ends/specs/State.antt": 1,
+        "crates/mr_world_parts/specs/Codes.antt": 1,
+        "crates/mr_node_links/specs/State.antt": 1,
+        "crates/mr_loop/specs/Lacking.antt": 1,
     },
 }
+CLAUSE = re.compile(r" *(?:ensures|requires|invariant|decreases)\b")
 LOOP = re.compile(r" *(?:'\w+: )?(?:for|while|loop)\b")
 EXPORT = re.compile(r"^pub use (\w+)::([^;]*);", re.M)
 # what begins at the left edge with a name and what it is, and what of it stands on the rows below
@@ -85,6 +87,15 @@ def past(sizes, most, kind):
 
 def loops_in(rows):
     return sum(1 for row in rows if LOOP.match(row))
+
+
+def clauses_in(text):
+    """The rows of the clauses of a text, each clause from its word to the brace that ends it."""
+    open_braces = 0
+    for row in text.split("\n"):
+        if open_braces or CLAUSE.match(row):
+            open_braces += row.count("{") - row.count("}")
+            yield row
 
 
 def exported(text):
@@ -126,6 +137,10 @@ class Style(unittest.TestCase):
     def test_no_function_has_two_loops(self):
         self.assertEqual([it for it, rows in self.bodies() if loops_in(rows) > 1], [])
 
+    def test_clauses_break_within_their_columns(self):
+        texts = {path: read(path) for path in found("crates/*/src/**/*.rt")}
+        self.assertEqual([f"{path}: {row}" for path, text in texts.items() for row in clauses_in(text) if len(row) > COLUMNS], [])
+
     def test_no_crate_exports_a_name_of_one_that_it_uses(self):
         types = {it: exported(read(path)) for it in self.uses for path in found(f"crates/{it}/src/lib.rt")}
         twice = [f"{it} {name} {low}" for it, below in self.uses.items() for low in below for name in sorted(types.get(it, set()) & types.get(low, set()))]
@@ -138,6 +153,10 @@ class Style(unittest.TestCase):
 class Measures(unittest.TestCase):
     def test_what_is_a_loop(self):
         self.assertEqual(loops_in(["    for x in xs {", "        'all: while is_low(x) {", "    loop {", "    formed(x);", "    // for one"]), 3)
+
+    def test_what_is_a_clause(self):
+        rows = ["fn low(x: u8) -> bool", "    requires { x < 3 }", "    ensures low { (y : ℕ) →", "        y ≡ x };", "fn high()", "{", "}"]
+        self.assertEqual(list(clauses_in("\n".join(rows))), rows[1:4])
 
     def test_which_types_are_exported(self):
         self.assertEqual(exported("mod low;\npub use low::{High, LIMIT, low};\npub use mr_low::Low;\npub use one::One;\n"), {"High", "One"})

@@ -184,6 +184,23 @@ class Noting(Playing):
             self.assertEqual(master.asks(link, data), [])
             self.assertEqual(master.answers(client, "ROLE\r\n"), role_of_master(27, ("", "0", offset)))
 
+    def test_what_is_no_port_or_address_is_not_kept(self):
+        """What is longer than one can be is answered the same, and it is as if it hadn't been said."""
+        longest = 255 * "a"
+        for said, told in [
+            ([("listening-port", "65535"), ("ip-address", longest)], (longest, "65535")),
+            ([("listening-port", "655350"), ("ip-address", longest + "a")], ("", "0")),
+            ([("listening-port", "7"), ("listening-port", "000007"), ("ip-address", "::1"), ("ip-address", 1000 * "1")], ("::1", "7")),
+        ]:
+            for at_once in (True, False):
+                with self.subTest(said=said, at_once=at_once):
+                    master, client = self.started()
+                    link = master.open()
+                    for words in [[word for pair in said for word in pair]] if at_once else said:
+                        self.assertEqual(master.answers(link, request("REPLCONF", *words)), OK)
+                    self.assertEqual(master.answers(link, asks_from("a", 28)), continues("a"))
+                    self.assertEqual(master.answers(client, "ROLE\r\n"), role_of_master(27, (*told, "0")))
+
     def test_empty_requests_are_used(self):
         master, client, link = self.at_replica()
         for data in ("\r\n", "*0\r\n", "*-1\r\n", "  \n"):
@@ -285,14 +302,29 @@ class Listening(Playing):
                     self.shown(replica, "a", 27)
                     self.assertEqual(self.asked(replica), asks_from("a", 28))
 
-    def test_a_link_that_the_replica_closed_is_gone(self):
-        replica = self.at_27()
-        link = self.heard(replica, CONTINUED)
-        replica.asks(link, "x")
-        self.assertEqual((replica.room(link), replica.unread(link)), (None, None))
-        for call in (replica.step, lambda it: replica.feed(it, b"x")):
-            with self.assertRaisesRegex(PeerFault, "no such link"):
-                call(link)
+    def test_a_link_that_the_replica_left_is_closed(self):
+        """What is fed to it is dropped, until its host closes it."""
+        for heard, client_asks, data in [
+            # a bad line, a refusal, and what is no stream
+            (b"", None, "x"), (GREETED, None, "-ERR no\r\n"), (CONTINUED, None, "x"),
+            # it is promoted, or turns to another
+            (b"", "REPLICAOF NO ONE\r\n", None), (CONTINUED, "REPLICAOF NO ONE\r\n", None), (CONTINUED, "REPLICAOF h 2\r\n", None),
+        ]:
+            with self.subTest(heard=heard, client_asks=client_asks, data=data):
+                replica = self.at_27()
+                client, link = replica.open(), self.heard(replica, heard)
+                replica.feed(link, SET_W[:20] if client_asks else b"")
+                outs = replica.asks(client, client_asks, fresh="c" * 40) if client_asks else replica.asks(link, data)
+                self.assertIn(("close", link), outs)
+                self.assertEqual((replica.is_closed(link), replica.room(link), replica.unread(link)), (True, ENDLESS, 0))
+                replica.feed(link, SET_W)
+                self.assertEqual((replica.is_closed(link), replica.unread(link)), (True, 0))
+                self.assertEqual(replica.answers(client, "GET k\r\n"), bulk("v"))
+                replica.close(link)
+                self.assertEqual((replica.room(link), replica.unread(link)), (None, None))
+                for call in (replica.step, lambda it: replica.feed(it, b"x")):
+                    with self.assertRaisesRegex(PeerFault, "no such link"):
+                        call(link)
 
     def test_any_line_answers_the_first_three(self):
         replica = self.at_27()
@@ -351,7 +383,7 @@ class Listening(Playing):
         replica = self.at_27()
         client, link = replica.open(), self.heard(replica, CONTINUED + PAIR)
         replica.asks(client, "REPLICAOF NO ONE\r\n", fresh="c" * 40)
-        self.assertEqual((replica.answers(replica.open(), asks_from("a", 28)), replica.room(link)), (continues("c") + PAIR, None))
+        self.assertEqual((replica.answers(replica.open(), asks_from("a", 28)), replica.room(link)), (continues("c") + PAIR, ENDLESS))
         self.assertEqual(replica.answers(replica.open(), NOTHING_TO_CONTINUE), announces("c", 110, SET_A + SET_B + SET))
 
     def test_a_half_group_is_let_go_with_its_link(self):
@@ -555,6 +587,23 @@ class Lasting(Playing):
         self.assertIsNone(master.room(gone))
         master.close(gone)
         self.assertEqual((master.room(other), master.answers(client, "GET k\r\n")), (ROOM, bulk("v")))
+
+    def test_a_closed_end_gives_its_bytes_back(self):
+        """.. before its host closes it: a client's, and that of a link to a master which is left."""
+        long, master, replica = 48 << 20, self.master(), self.replica()
+        below = self.dialled(replica)
+        replica.feed(below, GREETED + announces("b", 5, b""))
+        replica.settles(below)
+        for node, link in ((master, master.open()), (replica, below)):
+            node.feed(link, b"*3\r\n$3\r\nSET\r\n$1\r\nk\r\n$%d\r\n" % long)
+            for _ in range(long >> 20):
+                node.feed(link, bytes(1 << 20))
+            self.assertEqual(node.step(link), IDLE)
+            held = self.program.memory()
+            # no line end stands behind the word
+            self.assertIn(("close", link), node.asks(link, b"xx"))
+            self.assertTrue(node.is_closed(link))
+            self.assertLess(self.program.memory(), held - long // 2)
 
     def test_a_full_input_is_never_idle(self):
         # the longest request: two words, of 536,870,912 and of 536,870,880 bytes

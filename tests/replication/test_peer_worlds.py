@@ -81,8 +81,8 @@ class Pair(Node):
     def __init__(self, peer, chance, counts, *words):
         super().__init__(*words)
         self.peer, self.chance, self.counts = peer, chance, counts
-        # the links to masters that it gave up, and the replicas in the order in which they became some
-        self.left, self.ranks = set(), {}
+        # the replicas in the order in which they became some
+        self.ranks = {}
 
     # ---- the calls
 
@@ -125,11 +125,10 @@ class Pair(Node):
         return done
 
     def stepped(self, link, given, fresh):
-        """The model's step, behind which it is known who became a replica, and which link to a master was given up."""
+        """The model's step, behind which it is known who became a replica."""
         done = Node.step(self, link, given, fresh)
         if self.ends[link].kind == REPLICA:
             self.ranks.setdefault(link, len(self.ranks))
-        self.left |= {it for it, end in self.ends.items() if end.kind == MASTER and end.is_closed}
         return done
 
     def tick(self, given):
@@ -161,12 +160,6 @@ class Pair(Node):
 
     # ---- what is meant otherwise than in the model
 
-    def end(self, link):
-        self.running()
-        if link in self.left:
-            raise NodeFault("no such link")
-        return super().end(link)
-
     def open_ends(self, kind):
         links = super().open_ends(kind)
         return sorted(links, key=lambda it: self.ranks.get(it, 0)) if kind == REPLICA else links
@@ -189,7 +182,7 @@ class Pair(Node):
             self.same("info", outcome(self.peer.info, PeerFault), outcome(self.info, NodeFault))
 
     def look_at(self, link):
-        wanted = (None, None) if link in self.left else (self.room(link), self.unread(link))
+        wanted = (self.room(link), self.unread(link))
         self.same("room, unread", (self.peer.room(link - 1), self.peer.unread(link - 1)), tuple(ENDLESS if it == float("inf") else it for it in wanted))
 
 
@@ -263,7 +256,7 @@ class Pairs(World):
         if node.is_stopped:
             return
         wanted = chance.choice([node.first(), node.offset + 1, node.offset + 2, node.second_offset, 28, -1])
-        data = chance.choice([b"", request("REPLCONF", "listening-port", "7"), b"replconf ip-address ::1 capa eof\r\n"])
+        data = chance.choice([b"", request("REPLCONF", "listening-port", "7"), request("REPLCONF", "listening-port", "000007"), b"replconf ip-address ::1 capa eof\r\n"])
         data += request("PSYNC", chance.choice([node.id, node.id, node.second, b"?"]), str(wanted))
         data += b"".join(chance.choice(ACKNOWLEDGEMENTS) for _ in range(chance.randint(0, 5))) + chance.choice([b"", b"", *NO_ACKNOWLEDGEMENTS])
         link = node.open()

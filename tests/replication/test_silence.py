@@ -11,7 +11,7 @@ from tests.support.handshake import NOTHING_TO_CONTINUE, PART, WHOLE
 from tests.support.program import LATE, request
 from tests.support.replicas import PIECE
 from tests.support.replicating import Replicating, leads
-from tests.support.replies import OK, PONG, bulk
+from tests.support.replies import NONE, OK, PONG, bulk
 from tests.support.server import HOST, MIB
 
 # for how long a peer may be silent here, in seconds: the least that may be asked for
@@ -20,6 +20,7 @@ HUNG_UP = b"link hung up: silent for %d s" % TIMEOUT
 # for how long a client may be idle here
 IDLE = 1
 IDLE_TOLD = re.compile(rb"clients hung up that were idle for %d s: (\d+)" % IDLE)
+ENDED = re.compile(rb"ended links hung up that read nothing of the rest for %d s: (\d+)" % TIMEOUT)
 OF_REPLICAS = re.compile(rb"replicas hung up that were silent or read nothing for %d s: (\d+)" % TIMEOUT)
 
 
@@ -146,6 +147,46 @@ class Replicas(Silent):
         self.assertEqual(master.said().followers, 1)
         self.assertEqual(self.hung_up(master), 1)
 
+    def test_one_that_asked_for_much_before(self):
+        """However many replies it was sent before its copy, and of whatever kind: it is hung up once it takes nothing."""
+        master = self.node(timeout=TIMEOUT)
+        deaf = self.client(master, room=1 << 18)
+        for _ in range(20):
+            self.assertEqual(deaf.asks("PING"), PONG)
+        self.assertEqual(deaf.asks("GET", "k"), b"$-1\r\n")
+        self.assertEqual(deaf.asks("COMMAND"), NONE)
+        deaf.send(NOTHING_TO_CONTINUE)
+        self.comes(lambda: master.said().followers == 1)
+        value = bytes(MIB)
+        for at in range(24):
+            self.assertEqual(master.asks("SET", "k", b"%02d" % at + value[2:]), OK)
+        began = time.monotonic()
+        self.comes(lambda: master.said().followers == 0)
+        self.assertGreater(time.monotonic() - began, TIMEOUT - 2)
+        self.assertTrue(deaf.rest().startswith(WHOLE))
+        self.assertEqual(self.hung_up(master), 1)
+
+    def test_one_that_takes_slowly(self):
+        """It takes bytes all the time, and says how far it has come: so it is heard, and kept for longer than anybody may be silent, while more waits for it than a
+        client may let wait. Once it has all of the copy it is where its master is."""
+        master = self.node(timeout=TIMEOUT)
+        self.assertEqual(master.asks("SET", "large", bytes(64 * MIB)), OK)
+        slow = self.client(master, room=1 << 18)
+        slow.send(NOTHING_TO_CONTINUE)
+        self.comes(lambda: master.said().followers == 1)
+        taken, late = 0, time.monotonic() + 3 * TIMEOUT
+        while time.monotonic() < late:
+            slow.send(request("REPLCONF", "ACK", "1"))
+            taken += len(slow.socket.recv(PIECE))
+            time.sleep(0.1)
+        # the system takes some MiB for it
+        self.assertLess(taken, 32 * MIB)
+        self.assertEqual(master.said().followers, 1)
+        while taken < 64 * MIB:
+            taken += len(slow.socket.recv(MIB))
+        self.assertEqual(master.said().followers, 1)
+        self.assertEqual(self.hung_up(master), 0)
+
     def test_those_that_say_nothing(self):
         """One that acknowledged and then says nothing is hung up; one that never said anything isn't, nor is any client."""
         master = self.node(timeout=TIMEOUT)
@@ -202,6 +243,32 @@ class Clients(Silent):
         self.assertRegex(self.told(replica, master.port)[-1], rb"\Ain its stream at offset \d+\Z")
         # the five, and the client of the test itself
         self.assertEqual(sum(int(found[1]) for found in map(IDLE_TOLD.fullmatch, master.told()) if found), 6)
+
+
+class Ended(Silent):
+    """Links that the node has closed: what waits there is written as long as some of it is taken."""
+
+    def test_clients_that_end_and_read_nothing(self):
+        """One that said QUIT and one that sends no more are hung up; one that reads slowly gets all."""
+        it = self.node(timeout=TIMEOUT)
+        large = bytes(16 * MIB)
+        self.assertEqual(it.asks("SET", "large", large), OK)
+        before = it.descriptors()
+        quits, sends_no_more, slow = (self.client(it, room=1 << 16) for _ in range(3))
+        quits.send(request("GET", "large") + request("QUIT"))
+        slow.send(request("GET", "large") + request("QUIT"))
+        sends_no_more.send(request("GET", "large"))
+        sends_no_more.send_no_more()
+        self.comes(lambda: it.descriptors() == before + 3)
+        began = time.monotonic()
+        while it.descriptors() > before + 1:
+            slow.kept += slow.socket.recv(1 << 15)
+            time.sleep(0.05)
+            self.assertLess(time.monotonic() - began, 3 * TIMEOUT)
+        self.assertGreater(time.monotonic() - began, TIMEOUT - 1)
+        self.assertEqual(slow.rest(), bulk(large.decode()) + OK)
+        self.comes(lambda: it.descriptors() == before)
+        self.assertEqual(sum(int(found[1]) for found in map(ENDED.fullmatch, it.told()) if found), 2)
 
 
 if __name__ == "__main__":

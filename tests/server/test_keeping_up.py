@@ -9,15 +9,18 @@ import unittest
 
 from tests.support import server
 from tests.support.program import request, shim
+from tests.support.replicas import Node
 from tests.support.replies import OK, PONG, bulk, number
-from tests.support.requests import GET, PING
-from tests.support.server import MIB, UNREAD
+from tests.support.requests import GET, PING, SET
+from tests.support.server import MIB, UNREAD, free_port
 from tests.support.serving import Serving
 
 # short-lived keys, so many a second
 SHORT_LIVED, A_SECOND = 200_000, 20_000
 # keys that expire all at once
 AT_ONCE = 1_000_000
+# expired keys that a replica keeps, and how often it is asked for the number of the others
+FEW, MANY, COUNTS = 5_000, 500_000, 500
 # how much memory a level may rise, and an idle server has so many seconds to delete
 LEVEL, SECONDS = 12 * MIB, 20
 # a large value: four replies of it are as much as a client may leave unread
@@ -72,6 +75,23 @@ class KeepingUp(Serving):
         self.assertEqual(offset(client), gone)
         self.assertEqual(client.asks("DBSIZE"), number(0))
         self.assertEqual(self.bytes().count(b"$3\r\nDEL\r\n"), AT_ONCE)
+
+    def test_a_replica_counts_its_keys_at_the_same_cost_however_many_have_expired(self):
+        """One that can't reach its master deletes none of them."""
+        used = []
+        for expired in (FEW, MANY):
+            self.write(SET + b"".join(request("SET", "key:%08d" % at, "v", "PXAT", "1000") for at in range(expired)))
+            it = Node(follows=free_port(), aof=self.path, sync="no")
+            self.addCleanup(it.stop)
+            self.assertEqual(it.asks("DBSIZE"), number(1))
+            before = it.used()
+            for _ in range(COUNTS):
+                it.asks("DBSIZE")
+            used.append(it.used() - before)
+            self.assertIn(b"%d keys" % (expired + 1), it.ready)
+            it.stop()
+        # going over the expired ones takes a hundred times as long
+        self.assertLess(used[1], 8 * used[0])
 
     def test_others_are_served_while_many_keys_expire(self):
         it = self.serve()

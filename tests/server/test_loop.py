@@ -100,6 +100,21 @@ class Deaf(Playing):
         turns, _ = self.plays(3, accepts=[peer(sets), peer(None, says, takes=[])])
         self.assertEqual((counts(turns), turns[-1].links.accepted[1].state), ((8, 0, 0), "open"))
 
+    def test_a_replica_is_heard_however_much_waits(self):
+        """All that it says is read in the turn in which it comes, though as much waits as has a client not be read of. Until its PSYNC is answered it is a client."""
+        acks = 200 * request("REPLCONF", "ACK", "1")
+        for waits in (LARGE, 5 * LARGE):
+            sets = b"".join(request("SETRANGE", "k%d" % it, str(LARGE - 1), "x") for it in range(waits // LARGE))
+            asks = b"".join(request("GET", "k%d" % it) for it in range(waits // LARGE))
+            replica, client = peer(None, NOTHING_TO_CONTINUE, acks, takes=[]), peer(None, asks, PING, takes=[])
+            turns, _ = self.plays(4, accepts=[peer(sets), replica, client])
+            replica, client = turns[-1].links.accepted[1:]
+            self.assertEqual((replica.state, replica.read), ("open", len(NOTHING_TO_CONTINUE + acks)))
+            self.assertNotEqual(client.read, len(asks + PING))
+        late = peer(None, request("GET", "k0"), NOTHING_TO_CONTINUE, takes=[])
+        turns, _ = self.plays(4, accepts=[peer(request("SETRANGE", "k0", str(LARGE - 1), "x")), late])
+        self.assertEqual(turns[-1].links.accepted[1].read, len(request("GET", "k0")))
+
 
 class Files(Playing):
     """Three requests, each read in a turn of its own. As the node starts its empty file is read by one call."""
@@ -467,13 +482,39 @@ class Following(Playing):
         self.assertLessEqual({*((SET + PAIR[:count], 27) for count in range(83)), (SET + PAIR, 110)}, found)
 
     def test_a_connect_fails(self):
-        """While the clock stands still each turn dials; while it moves a tenth of a second passes between two."""
+        """While the clock stands still each turn dials; while it moves a tenth of a second passes between the first two, and then twice as much."""
         turns, _ = self.follows(4, FAILED, FAILED, peer(PONG))
         self.assertEqual([it.state for it in turns[-1].links.dialled], [FAILED, FAILED, "open"])
         self.assertEqual([len(it.links.dialled) for it in turns], [1, 2, 3, 3])
-        turns, _ = self.follows(6, FAILED, FAILED, peer(PONG), moments=[1000, 1050, 1099, 1100, 1199, 1200])
+        turns, _ = self.follows(6, FAILED, FAILED, peer(PONG), moments=[1000, 1050, 1099, 1100, 1299, 1300])
         self.assertEqual([len(it.links.dialled) for it in turns], [1, 1, 1, 2, 2, 3])
         self.assertEqual({it.links.accepted[0].written for it in turns}, {OK})
+
+    def test_each_dial_that_leads_to_no_stream_doubles_the_wait(self):
+        """From a tenth of a second to five seconds, whether nobody is there, the link ends, or the master refuses or has half of a copy."""
+        waits = [100, 200, 400, 800, 1600, 3200, 5000, 5000]
+        moments = [1000]
+        for it in waits:
+            moments += [moments[-1] + it - 1, moments[-1] + it]
+        half = GREETED + announces("a", 27, SET)[:-1]
+        for master in (FAILED, peer(ENDS), peer(FAILS), peer(b"-ERR\r\n"), peer(half, ENDS)):
+            with self.subTest(master=master):
+                turns, _ = self.follows(len(moments), *[master] * len(moments), moments=moments)
+                self.assertEqual([len(it.links.dialled) for it in turns], [1] + [it + more for it in range(1, len(waits) + 1) for more in (0, 1)])
+
+    def test_behind_a_stream_waits_are_short_again(self):
+        """So they are where it broke, and where another master is named; not where a copy was only announced."""
+        copy = peer(GREETED + announces("a", 27, SET), None, ENDS)
+        moments = [1000, 1100, 1300, 1700, 1701, 1702, 1703, 1799, 1800, 1899, 1900, 2099, 2100]
+        turns, _ = self.follows(len(moments), FAILED, FAILED, FAILED, copy, FAILED, FAILED, FAILED, moments=moments)
+        self.assertEqual([len(it.links.dialled) for it in turns], [1, 2, 3, 4, 4, 4, 4, 4, 5, 5, 6, 6, 7])
+        part = peer(GREETED + announces("a", 27, SET)[:-1], None, ENDS)
+        turns, _ = self.follows(len(moments), FAILED, FAILED, FAILED, part, FAILED, FAILED, FAILED, moments=moments)
+        self.assertEqual([len(it.links.dialled) for it in turns], [1, 2, 3, *[4] * 10])
+        moments = [1000, 1100, 1300, 1301, 1400, 1401]
+        named = [None, None, request("REPLICAOF", "127.0.0.2", "7000")]
+        turns, _ = self.follows(len(moments), *[FAILED] * 6, client=named, moments=moments)
+        self.assertEqual([len(it.links.dialled) for it in turns], [1, 2, 3, 4, 4, 5])
 
     def test_what_came_of_it_is_counted(self):
         """In the turn in which it came: each line that was answered, a copy that is announced and one that is there, a stream that goes on, and what was refused."""

@@ -13,7 +13,7 @@ from tests.support.program import LATE, request
 from tests.support.refusing import Refusing
 from tests.support.replies import COUNT, OK, PONG, QUEUED, STARTED, array_of
 from tests.support.requests import LEAD, PING, SET, SET_W, SET_X, framed
-from tests.support.turns import ALL, ENDS, NOT_READY, OBEY, File, Links, Loop, peer
+from tests.support.turns import ALL, ENDS, NOT_READY, OBEY, File, Links, Loop, lacked, peer
 
 EXPIRES, EXPIRED, DELETED = request("SET", "e", "v", "PX", "5"), request("SET", "e", "v", "PXAT", "5"), request("DEL", "e")
 # the key in a whole copy
@@ -210,6 +210,27 @@ class Lacking(Refusing):
 
         self.assertGreater(self.each(plays), 100)
         self.assertEqual(ends, {"served", *FAULTS})
+
+    def test_what_memory_was_asked_for_is_told(self):
+        """In the turn in which a link is closed for want of it, or none comes of one, with the bytes that are unread there; and in no other turn anything."""
+        seen = set()
+
+        def plays(loop, is_refused):
+            self.assertEqual(loop.start(**LISTS), "started")
+            for _ in range(TURNS):
+                was_refused, told = is_refused(), loop.call("turn")
+                if not told.startswith(("turned", "halted")):
+                    return
+                times, links, last = lacked(told)
+                self.assertLessEqual(times, 0 if was_refused or not is_refused() else 1)
+                self.assertEqual((links, last == "-"), (1, False) if last != "-" else (0, True))
+                self.assertLessEqual(links, times)
+                seen.add(last)
+
+        self.assertGreater(self.each(plays), 100)
+        # a step lacks it with its whole request unread
+        self.assertLessEqual({"-", "accept", "dial", *("request:%d" % len(it) for it in (EXPIRES, SET, LEAD))}, seen)
+        self.assertLessEqual({"bytes", "copy", "stream"}, {it.split(":")[0] for it in seen})
 
     def test_nothing_more_is_written_where_what_was_read_is_lost(self):
         """A reply waits as a part of the next request comes, for which memory lacks: the link closes, and isn't given the reply, which it would take by now. A step

@@ -58,6 +58,11 @@ class Program:
         told, _, self.unread = b"".join(parts).partition(b"\n")
         return told.decode()
 
+    def memory(self):
+        """How many bytes it has in memory now."""
+        with open(f"/proc/{self.running.pid}/status", encoding="ascii") as it:
+            return next(int(line.split()[1]) << 10 for line in it if line.startswith("VmRSS:"))
+
     def end(self):
         """Lets the program end, and returns its status."""
         self.running.stdin.close()

@@ -10,21 +10,25 @@ import sys
 import termios
 import time
 
+from tools.quick import UNPROVED, compiled
+
 # the folder of this file, and of what the tests put before the C library
 SUPPORT = os.path.dirname(os.path.abspath(__file__))
 ROOT = os.path.dirname(os.path.dirname(SUPPORT))
 # starts the program as a user does; it ignores SIGPIPE for the program
 LAUNCHER = os.path.join(ROOT, "minired")
+# whether what is played has nothing proved of it (tools/quick.py)
+IS_UNPROVED = bool(os.environ.get(UNPROVED))
 # the program itself
-PROGRAM = os.path.join(ROOT, "crates", "minired", "out", "minired")
+PROGRAM = os.path.join(ROOT, "crates", "minired", "out", *["unproved"] * IS_UNPROVED, "minired")
 # a line on standard error that says what the program does, with the time in front
 NOTICE = re.compile(rb"(\d{4}-\d\d-\d\dT\d\d:\d\d:\d\d\.\d{3}Z) minired: ([^\n]*)\n")
 # how much of its stream a node keeps for its replicas where nothing is said of it, in bytes
 USUAL_BACKLOG = 1_048_576
 # how the reason begins for which a test of a client is skipped that the machine doesn't have
 ABSENT = "absent: "
-# no run of a test takes this long, in seconds: one that does hangs
-LATE = 60
+# no run of a test takes this long, in seconds: one that does hangs. What is compiled with checks may take some minutes for a large table
+LATE = 300 if IS_UNPROVED else 60
 
 
 def request(*words):
@@ -45,6 +49,8 @@ def notices(said):
 
 def built(name):
     """The program of a crate, built first where it isn't or a source is newer."""
+    if IS_UNPROVED:
+        return compiled(name) or sys.exit(f"minired's tests: the program {name} cannot be compiled")
     program = os.path.join(ROOT, "crates", name, "out", name)
     sources = glob.glob(os.path.join(ROOT, "crates", "*", "src", "**", "*.rt"), recursive=True)
     if not os.path.exists(program) or os.path.getmtime(program) < max(map(os.path.getmtime, sources)):

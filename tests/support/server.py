@@ -73,7 +73,7 @@ class Server:
 
         self.port = port or free_port()
         streams = {"stdin": subprocess.DEVNULL, "stdout": subprocess.PIPE, "stderr": subprocess.PIPE}
-        self.process = subprocess.Popen(self.words(aof, sync, turns), preexec_fn=begin, **streams, **how)
+        self.process = subprocess.Popen(self.words(aof, sync, turns), preexec_fn=begin, **{**streams, **how})
         self.pid, self.ready = self.process.pid, b""
         try:
             self.wait_until_ready()

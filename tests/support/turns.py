@@ -154,7 +154,13 @@ class Followed(NamedTuple):
 
 def followed(turns):
     """What came of following a master in these turns."""
-    return Followed(*(sum(int(it) for it in column) for column in zip(*(it.told.split(" ")[5:] for it in turns))))
+    return Followed(*(sum(int(it) for it in column) for column in zip(*(it.told.split(" ")[5:12] for it in turns))))
+
+
+def lacked(told):
+    """How often memory ran out in a turn that told this, how many links were closed for it, and what was asked for as the last was."""
+    times, links, last = told.split(" ")[12:]
+    return int(times), int(links), last
 
 
 class Playing(unittest.TestCase):
