@@ -1,4 +1,4 @@
-.PHONY: build test check-one test-all test-batched test-by-turns bench bench-serve bench-replicas bench-large bench-memory bench-words bench-growth instructions instructions-serve instructions-replicas
+.PHONY: build test check-one quick test-all test-batched test-by-turns bench bench-serve bench-replicas bench-large bench-memory bench-words bench-growth instructions instructions-serve instructions-replicas
 
 # The gate that `make test` runs: test-all, test-batched, or test-by-turns.
 GATE = test-by-turns
@@ -26,6 +26,10 @@ test-by-turns:
 check-one: $(if $(filter-out tests.gate% tests.pages%,$(T)),build)
 	$(if $(T),,$(error say which: make check-one T=tests.commands))
 	python3 -m unittest $(if $(wildcard $(subst .,/,$(T))/.),discover -t . $(subst .,/,$(T)),$(T)) --verbose
+
+# The same tests on the program with nothing proved of it, compiled first where a source is newer, in a minute or two: T=tests.commands.test_strings.
+quick:
+	python3 tools/quick.py $(T)
 
 # Processor time a request and peak memory, beside redis-server where it is installed. RUNS="SETEX tick" chooses runs by words of their
 # names; with ROUNDS=5 each is made five times, and the least told.

@@ -281,6 +281,27 @@ def of_keys(name, reply, *last):
     return write
 
 
+def until(name, reply, first, spread, *last):
+    """One request for each of a million keys, with a time to live in seconds of its own, which `spread` tells by the place of the request."""
+
+    def write(file):
+        for at in range(KEYS):
+            file.write(request(name, scrambled(at), b"%d" % (first + spread(at)), *last))
+        return KEYS, KEYS * len(reply)
+
+    return write
+
+
+def rising(at):
+    """Deadlines as a running clock gives them: each a thousand requests later than those before."""
+    return at // 1_000
+
+
+def in_no_order(at):
+    """Deadlines within a day, in no order."""
+    return at * 2_654_435_761 % 86_400
+
+
 def ten_got(count):
     return asked(count, b"*10\r\n" + 10 * bulk(VALUE), b"MGET", *(key(n) for n in range(10)))
 
@@ -291,6 +312,7 @@ ONE = b":1\r\n"
 DEADLINE = 1_000_000_000
 NEW = of_keys(b"SET", OK, VALUE)
 NEW_UNTIL = of_keys(b"SETEX", OK, b"1000000", VALUE)
+NEW_RISING = until(b"SETEX", OK, 1_000_000, rising, VALUE)
 HUNDRED = b"*100\r\n" + 100 * bulk(VALUE)
 ONE_KEY = bulk(key(0))
 
@@ -358,8 +380,11 @@ RUNS = [
     ("MULTI, ten SETs, EXEC", None, tens(40_000, True)),
     ("SETEX of a million keys", None, NEW_UNTIL),
     ("SETEX over a million keys", NEW_UNTIL, of_keys(b"SETEX", OK, b"2000000", OTHER)),
+    ("SETEX of a million, rising", None, NEW_RISING),
+    ("SETEX of a million, unordered", None, until(b"SETEX", OK, 1_000_000, in_no_order, VALUE)),
     ("EXPIRE of a million keys", NEW, of_keys(b"EXPIRE", ONE, b"1000000")),
     ("EXPIRE that moves a million", NEW_UNTIL, of_keys(b"EXPIRE", ONE, b"2000000")),
+    ("EXPIRE that moves, rising", NEW_RISING, until(b"EXPIRE", ONE, 2_000_000, rising)),
     ("PERSIST of a million keys", NEW_UNTIL, of_keys(b"PERSIST", ONE)),
     ("TTL of a million keys", NEW_UNTIL, of_keys(b"TTL", b":1000000\r\n")),
     ("GET of a million deadlines", NEW_UNTIL, of_keys(b"GET", bulk(VALUE))),

@@ -18,6 +18,8 @@ OK = b"+OK\r\n"
 REWRITE = request(b"BGREWRITEAOF")
 STARTED = b"+Background append only file rewriting started\r\n"
 ONE_BY_ONE, TOGETHER = 5_000, 20_000
+# pairs of one effect: twice as many each time, up to the most that a request may have
+PAIRS = (65_536, 131_072, 262_144, 524_287)
 # never by itself, and as commands alone
 ALWAYS = ["--appendonly", "yes", "--appendfsync", "always", "--auto-aof-rewrite-percentage", "0", "--aof-use-rdb-preamble", "no"]
 
@@ -30,6 +32,11 @@ def texts(count):
 def members(count):
     """ZADDs of so many members with scores in no order."""
     return [request(b"ZADD", b"k", b"%d" % (at * 387_420_489 % count), scrambled(at)) for at in range(count)]
+
+
+def one_effect(pairs):
+    """One MSET of so many new keys, of 100 bytes with their values."""
+    return [request(b"MSET", *(word for at in range(pairs) for word in (b"key:%012d" % at, 84 * b"v")))]
 
 
 class OfMinired(Minired):
@@ -128,16 +135,16 @@ def rewritten(kind):
     return begun(kind, b"".join(texts(KEYS)), run)
 
 
-def loaded(made):
+def loaded(made, count=KEYS):
     def runs(kind):
-        """Nanoseconds of processor time a command, MB a second of it, and MiB of peak memory."""
+        """Nanoseconds of processor time for each of so many commands or pairs, MB a second of it, and MiB of peak memory."""
 
         def run(program, began):
             return program.used(), program.peak() / MIB
 
-        data = b"".join(made(KEYS))
+        data = b"".join(made(count))
         (start, _), (end, peak) = begun(kind, b"", run), begun(kind, data, run)
-        return (end - start) / KEYS, len(data) / (end - start) * 1e3, peak
+        return (end - start) / count, len(data) / (end - start) * 1e3, peak
 
     return runs
 
@@ -149,6 +156,7 @@ RUNS = [
     ("file: rewriting a million keys", rewritten, ("ns a key", "keys/s")),
     ("file: loading a million SETs", loaded(texts), ("ns a SET", "MB/s", "peak MiB")),
     ("file: loading a million ZADDs", loaded(members), ("ns a ZADD", "MB/s", "peak MiB")),
+    *((f"file: loading an MSET of {pairs:,}", loaded(one_effect, pairs), ("ns a pair", "MB/s", "peak MiB")) for pairs in PAIRS),
 ]
 
 
