@@ -171,26 +171,48 @@ def played(module):
     return well, 1 if ran.returncode and not failed else failed
 
 
+# of so many files that fail beside others each is played once more by itself; where more do, it isn't the machine
+AGAIN = 3
+
+
+def beside_others(at_once):
+    """Plays each file of tests, so many at a time: how many tests passed, and the files that failed with their counts. Once too many have, no further one begins."""
+    lost = []
+
+    def plays(module):
+        if len(lost) > AGAIN:
+            return 0
+        passed, failed = played(module)
+        if failed:
+            lost.append((module, passed, failed))
+            return 0
+        return passed
+
+    with ThreadPoolExecutor(at_once) as pool:
+        return sum(pool.map(plays, files_of_tests())), lost
+
+
 def tables(at_once):
-    """Tests the built program, so many files of tests at a time, and returns how many of its tests passed. The first that fails is the last that begins."""
+    """Tests the built program, so many files of tests at a time, and returns how many of its tests passed.
+
+    A test that waits for what servers do can be too late beside others. So a file that fails is played once more with nothing beside it, and what it says then counts."""
     built = subprocess.run([LAUNCHER], cwd=ROOT, stdin=subprocess.DEVNULL)
     if built.returncode:
         print("minired's tests: the program cannot be built")
         end(0, 1)
     # what runs the gate says otherwise where no client may be absent
     os.environ.setdefault("ABSENT_CLIENTS", "named")
-    lost = threading.Event()
-
-    def plays(module):
-        well, bad = (0, 0) if lost.is_set() else played(module)
+    passed, lost = beside_others(at_once)
+    if len(lost) > AGAIN:
+        end(passed + sum(well for _, well, _ in lost), sum(bad for *_, bad in lost))
+    for module, *_ in lost:
+        print(f"minired's tests: {module} failed beside others, and is played by itself", flush=True)
+        well, bad = played(module)
+        passed += well
         if bad:
-            lost.set()
-        return well, bad
-
-    with ThreadPoolExecutor(at_once) as pool:
-        passed, failed = (sum(it) for it in zip(*pool.map(plays, files_of_tests())))
-    if failed or not passed:
-        end(passed, max(1, failed))
+            end(passed, bad)
+    if not passed:
+        end(0, 1)
     return passed
 
 

@@ -186,12 +186,12 @@ class Tables(unittest.TestCase):
     """Files of tests, some at a time, each in a process of its own."""
 
     def plays(self, **counts):
-        """What the gate says where the files of these names end in these counts."""
-        played, said = [], io.StringIO()
+        """What the gate says where the files of these names end in these counts, one after another where one is played more than once."""
+        played, said, left = [], io.StringIO(), {name: list(each) if isinstance(each, list) else [each] for name, each in counts.items()}
 
         def plays(module):
             played.append(module)
-            return counts[module]
+            return left[module].pop(0) if len(left[module]) > 1 else left[module][0]
 
         with contextlib.redirect_stdout(said), mock.patch.multiple(run, played=plays, files_of_tests=lambda: list(counts), LAUNCHER="true"):
             try:
@@ -208,10 +208,19 @@ class Tables(unittest.TestCase):
     def test_what_passed_is_added_up(self):
         self.assertEqual(self.plays(one=(2, 0), two=(0, 0), three=(3, 0)), (5, ["one", "two", "three"], ""))
 
-    def test_behind_a_failure_no_further_file_begins(self):
-        value, played, last = self.plays(one=(2, 0), two=(3, 1), **{f"later_{it}": (1, 0) for it in range(50)})
+    def test_a_file_that_fails_twice_has_failed(self):
+        value, played, last = self.plays(one=(2, 0), two=(3, 1), three=(4, 0))
         self.assertIsNone(value)
-        self.assertEqual((played, last), (["one", "two"], "5 passed, 1 failed"))
+        self.assertEqual((played, last), (["one", "two", "three", "two"], "9 passed, 1 failed"))
+
+    def test_a_file_that_fails_beside_others_alone_has_not(self):
+        self.assertEqual(self.plays(one=[(1, 1), (2, 0)], two=(3, 0)), (5, ["one", "two", "one"], ""))
+
+    def test_where_many_fail_no_further_file_begins(self):
+        failing = {f"file_{it}": (2, 1) for it in range(50)}
+        value, played, last = self.plays(**failing)
+        self.assertIsNone(value)
+        self.assertEqual((played, last), ([f"file_{it}" for it in range(run.AGAIN + 1)], "8 passed, 4 failed"))
 
     def test_no_test_at_all_is_a_failure(self):
         self.assertEqual(self.plays(one=(0, 0))[2], "0 passed, 1 failed")

@@ -1,22 +1,25 @@
 """An effect of many words that comes in pieces is gone over once: what it costs by its length in a file, in a snapshot and in a stream."""
 
-import resource
+import os
+import re
+import shutil
 import subprocess
 
 from tests.support.files import InFolder
 from tests.support.handshake import ANSWERS, GREETED
-from tests.support.program import LATE, built, request, run
+from tests.support.program import LATE, built, needs, request
 from tests.support.requests import SET, framed
 from tests.support.values import Playing, spelled
 
+# instructions are counted, since they are the same whatever else the machine does
+CALLGRIND = ("valgrind", "--quiet", "--tool=callgrind")
+COUNT = re.compile(r"^totals: (\d+)$", re.MULTILINE)
 # pairs of the shorter effect and how often as many the longer has, in a file and in bytes that a follower is fed
-IN_A_FILE, FED, TIMES = 65_536, 4_096, 4
-# What is gone over once takes the longer TIMES as long, and what is gone over anew at each piece the square of it.
+IN_A_FILE, FED, TIMES = 32_768, 4_096, 4
+# What is gone over once takes the longer TIMES as many, and what is gone over anew at each piece the square of it.
 MOST = 1.5 * TIMES
 # a follower is fed so many bytes at a time
 PIECE = 1024
-# the least of so many runs counts
-RUNS = 3
 # the answer to PSYNC up to the length of a snapshot, and the effect that is fed behind it
 ANNOUNCED = b"+FULLRESYNC %s 27\r\n$%d\r\n"
 
@@ -27,21 +30,24 @@ def effect(pairs):
     return request("MSET", *words)
 
 
-def used_by_children():
-    """Seconds of processor that children which have ended took."""
-    used = resource.getrusage(resource.RUSAGE_CHILDREN)
-    return used.ru_utime + used.ru_stime
-
-
 class LongEffects(InFolder, Playing):
+    def setUp(self):
+        super().setUp()
+        needs(self, shutil.which("valgrind"), "valgrind")
+
+    def counted(self, data, *words):
+        """What a program writes that is run on these bytes. `took` is how many instructions that takes."""
+        counts = os.path.join(self.folder, "counts")
+        ran = subprocess.run([*CALLGRIND, "--callgrind-out-file=" + counts, *words], input=data, capture_output=True, timeout=10 * LATE)
+        self.assertEqual(ran.returncode, 0, ran.stderr)
+        with open(counts) as told:
+            self.took = int(COUNT.search(told.read()).group(1))
+        return ran.stdout
+
     def cost(self, play, pairs):
-        """The least processor time that it takes to play an effect of so many pairs."""
-        text, took = effect(pairs), []
-        for _ in range(RUNS):
-            before = used_by_children()
-            play(text)
-            took.append(used_by_children() - before)
-        return min(took)
+        """How many instructions it takes to play an effect of so many pairs."""
+        play(effect(pairs))
+        return self.took
 
     def costs_no_more_a_pair(self, play, pairs):
         self.assertLess(self.cost(play, TIMES * pairs), MOST * self.cost(play, pairs))
@@ -49,7 +55,7 @@ class LongEffects(InFolder, Playing):
     def loads(self, text):
         """A file of this text."""
         self.write(text)
-        self.assertEqual(run(request("DBSIZE"), "pipe", "--aof", self.path).stdout[:1], b":")
+        self.assertEqual(self.counted(request("DBSIZE"), built("minired"), "pipe", "--aof", self.path)[:1], b":")
 
     def follows(self, before, data, wanted):
         """A follower that is fed these bytes behind others, a piece at a time with a step behind each, answers so at last."""
@@ -57,8 +63,8 @@ class LongEffects(InFolder, Playing):
         steps = ["begin 0", "feed " + spelled(before), *5 * ["step"]]
         for piece in pieces:
             steps += ["feed " + spelled(piece), "step"]
-        ran = subprocess.run([built("rehearse_values")], input="follower " + ";".join(steps) + "\n", capture_output=True, text=True, timeout=LATE)
-        answers = ran.stdout.splitlines()
+        script = "follower " + ";".join(steps) + "\n"
+        answers = self.counted(script.encode(), built("rehearse_values")).decode().splitlines()
         self.assertEqual((len(answers), set(answers[7:-1]), answers[-1]), (len(steps), {"fed", "idle"}, wanted))
 
     def test_of_a_file(self):
