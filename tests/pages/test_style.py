@@ -30,10 +30,10 @@ EXCUSED = {
     # of each but `next` a row for each command, effect, name or fault
     "bodies": {
         "mr_groups owning::owned_effect": 168,
-        "mr_arguments name::Name::starting": 73,
-        "mr_arguments name::Name::text": 114,
-        "mr_arguments fault::wrong_count": 114,
-        "mr_ask reading::read_arguments": 114,
+        "mr_arguments name::Name::starting": 75,
+        "mr_arguments name::Name::text": 116,
+        "mr_arguments fault::wrong_count": 116,
+        "mr_ask reading::read_arguments": 116,
         "mr_effect encoding::push_effect": 77,
         "mr_node_output out::OutsIterIterator::next": 70,  # each place at which something may be given out
         "mr_keyspace entries::Entries::copy": 60,

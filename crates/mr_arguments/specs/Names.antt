@@ -2,7 +2,10 @@
 use Rattle.std.specs.Prelude.{ℕ, ◌+◌, List, [], ◌∷◌, Bool, nat_lt, if◌then◌else◌, Option, map, find, codes}
 use Rattle.std.specs.Str.{bytes_eq}
 use Rattle.mr_arguments.specs.declared.name.Name.{Name}
-use Rattle.mr_arguments.specs.declared.name.Name.TheVariants.{Get, Set, Del, Unlink, Exists, KeyType, StrLen, GetRange, MGet, SetNx, GetSet, GetDel, Keys, Scan, DbSize, MSet, MSetNx, Append, SetRange, Incr, Decr, IncrBy, DecrBy, Rename, RenameNx, FlushAll, FlushDb, SetEx, PSetEx, Expire, PExpire, ExpireAt, PExpireAt, Ttl, PTtl, ExpireTime, PExpireTime, Persist, HSet, HMSet, HSetNx, HGet, HMGet, HGetAll, HKeys, HVals, HDel, HExists, HLen, HStrLen, HIncrBy, LPush, RPush, LPushX, RPushX, LPop, RPop, LLen, LRange, LIndex, LSet, LInsert, LRem, LTrim, LMove, RPopLPush, SAdd, SRem, SIsMember, SMIsMember, SMembers, SCard, SPop, SRandMember, SMove, SInter, SUnion, SDiff, Ping, Echo, Select, Quit, BgRewriteAof, Info, Role, Shutdown, Command, Client, Psync, ReplConf, ReplicaOf, SlaveOf, Multi, Exec, Discard, ZAdd, ZIncrBy, ZRem, ZCard, ZCount, ZScore, ZMScore, ZRank, ZRevRank, ZRange, ZRevRange, ZRangeByScore, ZRevRangeByScore, ZPopMin, ZPopMax, ZRemRangeByRank, ZRemRangeByScore}
+-- commands.txt: imported
+use Rattle.mr_arguments.specs.declared.name.Name.TheVariants.{Get, Set, Del, Unlink, Exists, KeyType, StrLen, GetRange, MGet, SetNx, GetSet, GetDel, Keys, Scan, DbSize, MSet, MSetNx, Append, SetRange, Incr, Decr, IncrBy, DecrBy, Rename, RenameNx, FlushAll, FlushDb, SetEx, PSetEx, Expire, PExpire, ExpireAt, PExpireAt, Ttl, PTtl, ExpireTime, PExpireTime, Persist, HSet, HMSet, HSetNx, HGet, HMGet, HGetAll, HKeys, HVals, HDel, HExists, HLen, HStrLen, HIncrBy, LPush, RPush, LPushX, RPushX, LPop, RPop, LLen, LRange, LIndex, LSet, LInsert, LRem, LTrim, LMove, RPopLPush, SAdd, SRem, SIsMember, SMIsMember, SMembers, SCard, SPop, SRandMember, SMove, SInter, SUnion, SDiff, ZAdd, ZIncrBy, ZRem, ZCard, ZCount, ZScore, ZMScore, ZRank, ZRevRank, ZRange, ZRevRange, ZRangeByScore, ZRevRangeByScore, ZPopMin, ZPopMax, ZRemRangeByRank, ZRemRangeByScore, Ping, Echo, Select, Quit, BgRewriteAof, Info, Role, Shutdown, Command, Client, Psync, ReplConf, ReplicaOf, SlaveOf, Multi, Exec, Discard}
+
+-- commands.txt ends
 
 -- a letter from A to Z in lower case, and any other byte as it is
 abbrev pub lowered_byte : ℕ → ℕ
@@ -13,6 +16,7 @@ lowered word = map lowered_byte word
 
 -- in lower case
 abbrev pub text_of : Name → List ℕ
+-- commands.txt: text_of
 text_of Get = codes "get"
 text_of Set = codes "set"
 text_of Del = codes "del"
@@ -126,15 +130,25 @@ text_of Multi = codes "multi"
 text_of Exec = codes "exec"
 text_of Discard = codes "discard"
 
+-- commands.txt ends
+
 -- all of them
 abbrev pub names : List Name
-names = Get ∷ Set ∷ Del ∷ Unlink ∷ Exists ∷ KeyType ∷ StrLen ∷ GetRange ∷ MGet ∷ SetNx ∷ GetSet ∷ GetDel ∷ Keys ∷ Scan ∷ DbSize ∷ MSet ∷ MSetNx ∷ Append ∷ SetRange ∷ Incr ∷ Decr ∷ IncrBy ∷ DecrBy ∷ Rename ∷ RenameNx ∷ FlushAll ∷ FlushDb ∷ SetEx ∷ PSetEx ∷ Expire ∷ PExpire ∷ ExpireAt ∷ PExpireAt ∷ Ttl ∷ PTtl ∷ ExpireTime ∷ PExpireTime ∷ Persist ∷ HSet ∷ HMSet ∷ HSetNx ∷ HGet ∷ HMGet ∷ HGetAll ∷
-    HKeys ∷ HVals ∷ HDel ∷ HExists ∷ HLen ∷ HStrLen ∷ HIncrBy ∷ LPush ∷ RPush ∷ LPushX ∷ RPushX ∷ LPop ∷
-    RPop ∷ LLen ∷ LRange ∷ LIndex ∷ LSet ∷ LInsert ∷ LRem ∷ LTrim ∷ LMove ∷ RPopLPush ∷ SAdd ∷ SRem ∷
-    SIsMember ∷ SMIsMember ∷ SMembers ∷ SCard ∷ SPop ∷ SRandMember ∷ SMove ∷ SInter ∷ SUnion ∷ SDiff ∷
-    ZAdd ∷ ZIncrBy ∷ ZRem ∷ ZCard ∷ ZCount ∷ ZScore ∷ ZMScore ∷ ZRank ∷ ZRevRank ∷
-    ZRange ∷ ZRevRange ∷ ZRangeByScore ∷ ZRevRangeByScore ∷ ZPopMin ∷ ZPopMax ∷ ZRemRangeByRank ∷ ZRemRangeByScore ∷ Ping ∷
-    Echo ∷ Select ∷ Quit ∷ BgRewriteAof ∷ Info ∷ Role ∷ Shutdown ∷ Command ∷ Client ∷ Psync ∷ ReplConf ∷ ReplicaOf ∷ SlaveOf ∷ Multi ∷ Exec ∷ Discard ∷ []
+-- commands.txt: names
+names = Get ∷ Set ∷ Del ∷ Unlink ∷ Exists ∷ KeyType ∷ StrLen ∷ GetRange ∷ MGet ∷ SetNx ∷ GetSet ∷
+    GetDel ∷ Keys ∷ Scan ∷ DbSize ∷ MSet ∷ MSetNx ∷ Append ∷ SetRange ∷ Incr ∷ Decr ∷ IncrBy ∷
+    DecrBy ∷ Rename ∷ RenameNx ∷ FlushAll ∷ FlushDb ∷ SetEx ∷ PSetEx ∷ Expire ∷ PExpire ∷ ExpireAt ∷
+    PExpireAt ∷ Ttl ∷ PTtl ∷ ExpireTime ∷ PExpireTime ∷ Persist ∷ HSet ∷ HMSet ∷ HSetNx ∷ HGet ∷
+    HMGet ∷ HGetAll ∷ HKeys ∷ HVals ∷ HDel ∷ HExists ∷ HLen ∷ HStrLen ∷ HIncrBy ∷ LPush ∷ RPush ∷
+    LPushX ∷ RPushX ∷ LPop ∷ RPop ∷ LLen ∷ LRange ∷ LIndex ∷ LSet ∷ LInsert ∷ LRem ∷ LTrim ∷ LMove ∷
+    RPopLPush ∷ SAdd ∷ SRem ∷ SIsMember ∷ SMIsMember ∷ SMembers ∷ SCard ∷ SPop ∷ SRandMember ∷
+    SMove ∷ SInter ∷ SUnion ∷ SDiff ∷ ZAdd ∷ ZIncrBy ∷ ZRem ∷ ZCard ∷ ZCount ∷ ZScore ∷ ZMScore ∷
+    ZRank ∷ ZRevRank ∷ ZRange ∷ ZRevRange ∷ ZRangeByScore ∷ ZRevRangeByScore ∷ ZPopMin ∷ ZPopMax ∷
+    ZRemRangeByRank ∷ ZRemRangeByScore ∷ Ping ∷ Echo ∷ Select ∷ Quit ∷ BgRewriteAof ∷ Info ∷ Role ∷
+    Shutdown ∷ Command ∷ Client ∷ Psync ∷ ReplConf ∷ ReplicaOf ∷ SlaveOf ∷ Multi ∷ Exec ∷ Discard ∷
+    []
+
+-- commands.txt ends
 
 abbrev pub is_named : List ℕ → Name → Bool
 is_named text name = bytes_eq (text_of name) text

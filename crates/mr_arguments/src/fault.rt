@@ -136,6 +136,7 @@ fn wrong_count(name: Name) -> &'static [u8]
     ensures { result.now ≡ wrong_count name }
 {
     match name {
+        // commands.txt: wrong_count
         Name::Get => b"ERR wrong number of arguments for 'get' command",
         Name::Set => b"ERR wrong number of arguments for 'set' command",
         Name::Del => b"ERR wrong number of arguments for 'del' command",
@@ -248,6 +249,7 @@ fn wrong_count(name: Name) -> &'static [u8]
         Name::Multi => b"ERR wrong number of arguments for 'multi' command",
         Name::Exec => b"ERR wrong number of arguments for 'exec' command",
         Name::Discard => b"ERR wrong number of arguments for 'discard' command",
+        // commands.txt ends
     }
 }
 

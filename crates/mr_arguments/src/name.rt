@@ -6,6 +6,7 @@ ghost use Rattle.mr_arguments.specs.Starting.{starts_as};
 /// A command, by its name alone.
 #[derive(Clone, Copy, Debug, PartialEq, Eq)]
 pub enum Name {
+    // commands.txt: variants
     // of strings and keys
     Get,
     Set,
@@ -126,6 +127,7 @@ pub enum Name {
     Multi,
     Exec,
     Discard,
+    // commands.txt ends
 }
 
 impl Name {
@@ -154,6 +156,7 @@ impl Name {
         ensures { result.now ≡ filter (starts_as len letter) names }
     {
         match (len, letter) {
+            // commands.txt: starting
             (3, b'g') => &[Name::Get],
             (3, b's') => &[Name::Set],
             (3, b'd') => &[Name::Del],
@@ -224,6 +227,7 @@ impl Name {
             (13, b'z') => &[Name::ZRangeByScore],
             (15, b'z') => &[Name::ZRemRangeByRank],
             (16, b'z') => &[Name::ZRevRangeByScore, Name::ZRemRangeByScore],
+            // commands.txt ends
             _ => &[],
         }
     }
@@ -240,6 +244,7 @@ impl Name {
         ensures { result.now ≡ text_of self }
     {
         match self {
+            // commands.txt: text
             Name::Get => "get",
             Name::Set => "set",
             Name::Del => "del",
@@ -352,6 +357,7 @@ impl Name {
             Name::Multi => "multi",
             Name::Exec => "exec",
             Name::Discard => "discard",
+            // commands.txt ends
         }
     }
 }

@@ -34,6 +34,7 @@ of_kind kind reading = with reading (λ command. Ok (kind command))
 
 -- the table: how the arguments of each command are read
 abbrev pub reading : Name → List (List ℕ) → Result Ask AskFault
+-- commands.txt: reading
 reading name.Get arguments = of_kind ask.Texts (get arguments)
 reading name.Set arguments = of_kind ask.Texts (set arguments)
 reading name.Del arguments = of_kind ask.Keys (del arguments)
@@ -146,6 +147,8 @@ reading name.SlaveOf arguments = of_kind ask.Node (replicaof name.SlaveOf argume
 reading name.Multi arguments = of_kind ask.Node (multi arguments)
 reading name.Exec arguments = of_kind ask.Node (exec arguments)
 reading name.Discard arguments = of_kind ask.Node (discard arguments)
+
+-- commands.txt ends
 
 abbrev pub asked_by : Option Name → List (List ℕ) → Result Ask AskFault
 asked_by None arguments = Err Unknown

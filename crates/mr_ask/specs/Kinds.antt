@@ -17,6 +17,7 @@ pub data Kind : Type 0 where
   node : Kind
 
 abbrev pub kind_of : Name → Kind
+-- commands.txt: kind_of
 kind_of name.Get = texts
 kind_of name.Set = texts
 kind_of name.Del = keys
@@ -129,3 +130,5 @@ kind_of name.SlaveOf = node
 kind_of name.Multi = node
 kind_of name.Exec = node
 kind_of name.Discard = node
+
+-- commands.txt ends

@@ -92,6 +92,7 @@ key_and_pairs (key ∷ words) = pairs_alone words
 
 -- ---- the faults that the arguments of each command have
 abbrev pub argument_faults : Name → List (List ℕ) → List AskFault
+-- commands.txt: argument_faults
 argument_faults name.Get words = counted name.Get (each (any_word ∷ []) words)
 argument_faults name.Set words = counted name.Set (key_value_options words)
 argument_faults name.Del words = counted name.Del (each_first (any_word ∷ []) words)
@@ -204,6 +205,8 @@ argument_faults name.SlaveOf words = counted name.SlaveOf (following_faults word
 argument_faults name.Multi words = counted name.Multi (each [] words)
 argument_faults name.Exec words = counted name.Exec (each [] words)
 argument_faults name.Discard words = counted name.Discard (each [] words)
+
+-- commands.txt ends
 
 abbrev pub faults_behind : Option Name → List (List ℕ) → List AskFault
 faults_behind None words = Unknown ∷ []

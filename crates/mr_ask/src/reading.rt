@@ -58,6 +58,7 @@ fn read_arguments<'a, 't>(name: Name, arguments: Arguments<'a, 't>) -> Reading<'
     ensures { result ≡ reading name (map cow_slice_items arguments.now) }
 {
     match name {
+        // commands.txt: kinds
         Name::Get
         | Name::Set
         | Name::StrLen
@@ -170,6 +171,7 @@ fn read_arguments<'a, 't>(name: Name, arguments: Arguments<'a, 't>) -> Reading<'
         | Name::Multi
         | Name::Exec
         | Name::Discard => read_node(name, arguments),
+        // commands.txt ends
     }
 }
 
@@ -180,6 +182,7 @@ fn read_texts<'a, 't>(name: Name, arguments: Arguments<'a, 't>) -> Reading<'a, '
     ensures { result ≡ reading name (map cow_slice_items arguments.now) }
 {
     match name {
+        // commands.txt: texts
         Name::Get => of_texts(texts::get(arguments)),
         Name::Set => of_texts(texts::set(arguments)),
         Name::StrLen => of_texts(texts::strlen(arguments)),
@@ -198,6 +201,7 @@ fn read_texts<'a, 't>(name: Name, arguments: Arguments<'a, 't>) -> Reading<'a, '
         Name::DecrBy => of_texts(texts::decrby(arguments)),
         Name::SetEx => of_texts(texts::setex(arguments)),
         Name::PSetEx => of_texts(texts::psetex(arguments)),
+        // commands.txt ends
         _ => unreachable!(),
     }
 }
@@ -209,6 +213,7 @@ fn read_keys<'a, 't>(name: Name, arguments: Arguments<'a, 't>) -> Reading<'a, 't
     ensures { result ≡ reading name (map cow_slice_items arguments.now) }
 {
     match name {
+        // commands.txt: keys
         Name::Del => of_keys(keys::del(arguments)),
         Name::Unlink => of_keys(keys::unlink(arguments)),
         Name::Exists => of_keys(keys::exists(arguments)),
@@ -229,6 +234,7 @@ fn read_keys<'a, 't>(name: Name, arguments: Arguments<'a, 't>) -> Reading<'a, 't
         Name::ExpireTime => of_keys(keys::expiretime(arguments)),
         Name::PExpireTime => of_keys(keys::pexpiretime(arguments)),
         Name::Persist => of_keys(keys::persist(arguments)),
+        // commands.txt ends
         _ => unreachable!(),
     }
 }
@@ -240,6 +246,7 @@ fn read_hashes<'a, 't>(name: Name, arguments: Arguments<'a, 't>) -> Reading<'a, 
     ensures { result ≡ reading name (map cow_slice_items arguments.now) }
 {
     match name {
+        // commands.txt: hashes
         Name::HSet => of_hashes(hashes::hset(name, FieldsReply::Added, arguments)),
         Name::HMSet => of_hashes(hashes::hset(name, FieldsReply::Done, arguments)),
         Name::HSetNx => of_hashes(hashes::hsetnx(arguments)),
@@ -253,6 +260,7 @@ fn read_hashes<'a, 't>(name: Name, arguments: Arguments<'a, 't>) -> Reading<'a, 
         Name::HLen => of_hashes(hashes::hlen(arguments)),
         Name::HStrLen => of_hashes(hashes::hstrlen(arguments)),
         Name::HIncrBy => of_hashes(hashes::hincrby(arguments)),
+        // commands.txt ends
         _ => unreachable!(),
     }
 }
@@ -264,6 +272,7 @@ fn read_lists<'a, 't>(name: Name, arguments: Arguments<'a, 't>) -> Reading<'a, '
     ensures { result ≡ reading name (map cow_slice_items arguments.now) }
 {
     match name {
+        // commands.txt: lists
         Name::LPush => of_lists(lists::push(name, End::Left, PushTo::AnyKey, arguments)),
         Name::RPush => of_lists(lists::push(name, End::Right, PushTo::AnyKey, arguments)),
         Name::LPushX => of_lists(lists::push(name, End::Left, PushTo::ExistingKey, arguments)),
@@ -279,6 +288,7 @@ fn read_lists<'a, 't>(name: Name, arguments: Arguments<'a, 't>) -> Reading<'a, '
         Name::LTrim => of_lists(lists::ltrim(arguments)),
         Name::LMove => of_lists(lists::lmove(arguments)),
         Name::RPopLPush => of_lists(lists::rpoplpush(arguments)),
+        // commands.txt ends
         _ => unreachable!(),
     }
 }
@@ -290,6 +300,7 @@ fn read_sets<'a, 't>(name: Name, arguments: Arguments<'a, 't>) -> Reading<'a, 't
     ensures { result ≡ reading name (map cow_slice_items arguments.now) }
 {
     match name {
+        // commands.txt: sets
         Name::SAdd => of_sets(sets::sadd(arguments)),
         Name::SRem => of_sets(sets::srem(arguments)),
         Name::SIsMember => of_sets(sets::sismember(arguments)),
@@ -302,6 +313,7 @@ fn read_sets<'a, 't>(name: Name, arguments: Arguments<'a, 't>) -> Reading<'a, 't
         Name::SInter => of_sets(sets::combine(name, SetOperation::Intersection, arguments)),
         Name::SUnion => of_sets(sets::combine(name, SetOperation::Union, arguments)),
         Name::SDiff => of_sets(sets::combine(name, SetOperation::Difference, arguments)),
+        // commands.txt ends
         _ => unreachable!(),
     }
 }
@@ -313,6 +325,7 @@ fn read_sorted_sets<'a, 't>(name: Name, arguments: Arguments<'a, 't>) -> Reading
     ensures { result ≡ reading name (map cow_slice_items arguments.now) }
 {
     match name {
+        // commands.txt: sorted_sets
         Name::ZAdd => of_sorted_sets(zset::zadd(arguments)),
         Name::ZIncrBy => of_sorted_sets(zset::zincrby(arguments)),
         Name::ZRem => of_sorted_sets(zset::zrem(arguments)),
@@ -338,6 +351,7 @@ fn read_sorted_sets<'a, 't>(name: Name, arguments: Arguments<'a, 't>) -> Reading
         Name::ZPopMax => of_sorted_sets(zset::zpop(name, Order::Descending, arguments)),
         Name::ZRemRangeByRank => of_sorted_sets(zset::zremrangebyrank(arguments)),
         Name::ZRemRangeByScore => of_sorted_sets(zset::zremrangebyscore(arguments)),
+        // commands.txt ends
         _ => unreachable!(),
     }
 }
@@ -349,6 +363,7 @@ fn read_server<'a, 't>(name: Name, arguments: Arguments<'a, 't>) -> Reading<'a, 
     ensures { result ≡ reading name (map cow_slice_items arguments.now) }
 {
     match name {
+        // commands.txt: server
         Name::Ping => of_server(server::ping(arguments)),
         Name::Echo => of_server(server::echo(arguments)),
         Name::Select => of_server(server::select(arguments)),
@@ -359,6 +374,7 @@ fn read_server<'a, 't>(name: Name, arguments: Arguments<'a, 't>) -> Reading<'a, 
         Name::Shutdown => of_server(server::shutdown(arguments)),
         Name::Command => of_server(server::command(arguments)),
         Name::Client => of_server(server::client(arguments)),
+        // commands.txt ends
         _ => unreachable!(),
     }
 }
@@ -370,6 +386,7 @@ fn read_node<'a, 't>(name: Name, arguments: Arguments<'a, 't>) -> Reading<'a, 't
     ensures { result ≡ reading name (map cow_slice_items arguments.now) }
 {
     match name {
+        // commands.txt: node
         Name::Psync => of_node(node::psync(arguments)),
         Name::ReplConf => of_node(node::replconf(arguments)),
         Name::ReplicaOf => of_node(node::replicaof(name, arguments)),
@@ -377,6 +394,7 @@ fn read_node<'a, 't>(name: Name, arguments: Arguments<'a, 't>) -> Reading<'a, 't
         Name::Multi => of_node(node::multi(arguments)),
         Name::Exec => of_node(node::exec(arguments)),
         Name::Discard => of_node(node::discard(arguments)),
+        // commands.txt ends
         _ => unreachable!(),
     }
 }

@@ -46,7 +46,17 @@ texts (text.Get k) given m is = refl
 texts (text.StrLen k) given m is = refl
 texts (text.GetRange k first last) given m is = refl
 texts (text.MGet ks) given m is = refl
-texts _ given m is = never is
+texts (text.Set k value condition reply lifetime) given m is = never is
+texts (text.SetEx k seconds value) given m is = never is
+texts (text.PSetEx k milliseconds value) given m is = never is
+texts (text.SetNx k value) given m is = never is
+texts (text.GetSet k value) given m is = never is
+texts (text.GetDel k) given m is = never is
+texts (text.MSet pairs) given m is = never is
+texts (text.MSetNx pairs) given m is = never is
+texts (text.Append k value) given m is = never is
+texts (text.SetRange k offset value) given m is = never is
+texts (text.Increase k by) given m is = never is
 
 keys : (command : KeyAsk) (given : Given) (m : Dataset) → key_writes command ≡ false → own_effects (command_of (ask.Keys command) given) given.now m ≡ []
 keys (key.Del ks) given m is = never is
@@ -56,7 +66,15 @@ keys (key.RenameNx from to) given m is = never is
 keys (key.Clear databases timing) given m is = never is
 keys (key.Expire k expiry condition) given m is = never is
 keys (key.Persist k) given m is = never is
-keys _ given m is = refl
+keys (key.Exists ks) given m is = refl
+keys (key.KeyType k) given m is = refl
+keys (key.Keys pattern) given m is = refl
+keys (key.Scan cursor pattern kind) given m is = refl
+keys key.DbSize given m is = refl
+keys (key.Ttl k) given m is = refl
+keys (key.PTtl k) given m is = refl
+keys (key.ExpireTime k) given m is = refl
+keys (key.PExpireTime k) given m is = refl
 
 of_hash : (command : HashAsk) → ((h : Hash) → (hash_commands.change command h).effects ≡ []) → (given : Given) (m : Dataset) → own_effects (command_of (ask.Hashes command) given) given.now m ≡ []
 of_hash command silent given m = silent_changed hashes (hash_commands.change command) silent _ _
@@ -77,7 +95,14 @@ in_lists : (command : ListAsk) (given : Given) (m : Dataset) → list_writes com
 in_lists (list.LLen k) given m is = silent_list _ _ _
 in_lists (list.LRange k first last) given m is = silent_list _ _ _
 in_lists (list.LIndex k index) given m is = silent_list _ _ _
-in_lists _ given m is = never is
+in_lists (list.Push k end to items) given m is = never is
+in_lists (list.Pop k end count) given m is = never is
+in_lists (list.LSet k index item) given m is = never is
+in_lists (list.LInsert k side pivot item) given m is = never is
+in_lists (list.LRem k count item) given m is = never is
+in_lists (list.LTrim k first last) given m is = never is
+in_lists (list.LMove from to taken put) given m is = never is
+in_lists (list.RPopLPush from to) given m is = never is
 
 in_sets : (command : SetAsk) (given : Given) (m : Dataset) → set_writes command ≡ false → own_effects (command_of (ask.Sets command) given) given.now m ≡ []
 in_sets (set.SAdd k xs) given m is = never is
@@ -98,7 +123,13 @@ in_sorted_sets (zset.ZRem k xs) given m is = never is
 in_sorted_sets (zset.TakePairs k order count) given m is = never is
 in_sorted_sets (zset.ZRemRangeByRank k first last) given m is = never is
 in_sorted_sets (zset.ZRemRangeByScore k min max) given m is = never is
-in_sorted_sets _ given m is = silent_replied sorted_sets _ _ _
+in_sorted_sets (zset.ZCard k) given m is = silent_replied sorted_sets _ _ _
+in_sorted_sets (zset.ZCount k min max) given m is = silent_replied sorted_sets _ _ _
+in_sorted_sets (zset.ZScore k member) given m is = silent_replied sorted_sets _ _ _
+in_sorted_sets (zset.ZMScore k members) given m is = silent_replied sorted_sets _ _ _
+in_sorted_sets (zset.GetRank k member order) given m is = silent_replied sorted_sets _ _ _
+in_sorted_sets (zset.RangeByRank k first last order reply) given m is = silent_replied sorted_sets _ _ _
+in_sorted_sets (zset.RangeByScore k min max order limit reply) given m is = silent_replied sorted_sets _ _ _
 
 pub others_are_silent : OthersHaveNoEffects
 others_are_silent (ask.Texts command) given m is = texts command given m is

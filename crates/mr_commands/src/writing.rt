@@ -30,11 +30,21 @@ fn text_writes(ask: &TextAsk<'_, '_>) -> bool
     ensures { result ≡ text_writes ask.now }
 {
     match ask {
+        TextAsk::Set { .. }
+        | TextAsk::SetEx { .. }
+        | TextAsk::PSetEx { .. }
+        | TextAsk::SetNx { .. }
+        | TextAsk::GetSet { .. }
+        | TextAsk::GetDel { .. }
+        | TextAsk::MSet { .. }
+        | TextAsk::MSetNx { .. }
+        | TextAsk::Append { .. }
+        | TextAsk::SetRange { .. }
+        | TextAsk::Increase { .. } => true,
         TextAsk::Get { .. }
         | TextAsk::StrLen { .. }
         | TextAsk::GetRange { .. }
         | TextAsk::MGet { .. } => false,
-        _ => true,
     }
 }
 
@@ -50,7 +60,15 @@ fn key_writes(ask: &KeyAsk<'_, '_>) -> bool
         | KeyAsk::Clear { .. }
         | KeyAsk::Expire { .. }
         | KeyAsk::Persist { .. } => true,
-        _ => false,
+        KeyAsk::Exists { .. }
+        | KeyAsk::KeyType { .. }
+        | KeyAsk::Keys { .. }
+        | KeyAsk::Scan { .. }
+        | KeyAsk::DbSize
+        | KeyAsk::Ttl { .. }
+        | KeyAsk::PTtl { .. }
+        | KeyAsk::ExpireTime { .. }
+        | KeyAsk::PExpireTime { .. } => false,
     }
 }
 
@@ -63,7 +81,12 @@ fn hash_writes(ask: &HashAsk<'_, '_>) -> bool
         | HashAsk::HSetNx { .. }
         | HashAsk::HDel { .. }
         | HashAsk::HIncrBy { .. } => true,
-        _ => false,
+        HashAsk::HGet { .. }
+        | HashAsk::HMGet { .. }
+        | HashAsk::ListHash { .. }
+        | HashAsk::HExists { .. }
+        | HashAsk::HLen { .. }
+        | HashAsk::HStrLen { .. } => false,
     }
 }
 
@@ -72,8 +95,15 @@ fn list_writes(ask: &ListAsk<'_, '_>) -> bool
     ensures { result ≡ list_writes ask.now }
 {
     match ask {
+        ListAsk::Push { .. }
+        | ListAsk::Pop { .. }
+        | ListAsk::LSet { .. }
+        | ListAsk::LInsert { .. }
+        | ListAsk::LRem { .. }
+        | ListAsk::LTrim { .. }
+        | ListAsk::LMove { .. }
+        | ListAsk::RPopLPush { .. } => true,
         ListAsk::LLen { .. } | ListAsk::LRange { .. } | ListAsk::LIndex { .. } => false,
-        _ => true,
     }
 }
 
@@ -84,7 +114,12 @@ fn set_writes(ask: &SetAsk<'_, '_>) -> bool
     match ask {
         SetAsk::SAdd { .. } | SetAsk::SRem { .. } | SetAsk::SPop { .. } | SetAsk::SMove { .. } =>
             true,
-        _ => false,
+        SetAsk::SIsMember { .. }
+        | SetAsk::SMIsMember { .. }
+        | SetAsk::SMembers { .. }
+        | SetAsk::SCard { .. }
+        | SetAsk::SRandMember { .. }
+        | SetAsk::Combine { .. } => false,
     }
 }
 
@@ -99,6 +134,12 @@ fn zset_writes(ask: &ZSetAsk<'_, '_>) -> bool
         | ZSetAsk::TakePairs { .. }
         | ZSetAsk::ZRemRangeByRank { .. }
         | ZSetAsk::ZRemRangeByScore { .. } => true,
-        _ => false,
+        ZSetAsk::ZCard { .. }
+        | ZSetAsk::ZCount { .. }
+        | ZSetAsk::ZScore { .. }
+        | ZSetAsk::ZMScore { .. }
+        | ZSetAsk::GetRank { .. }
+        | ZSetAsk::RangeByRank { .. }
+        | ZSetAsk::RangeByScore { .. } => false,
     }
 }
