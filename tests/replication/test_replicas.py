@@ -7,7 +7,7 @@ import re
 import time
 import unittest
 
-from tests.support.handshake import GREETED, PART, WHOLE
+from tests.support.handshake import GREETED, GREETS, NOTHING_TO_CONTINUE, PART, WHOLE
 from tests.support.program import request
 from tests.support.random_keys import RandomKeys
 from tests.support.replicas import Played, Writes
@@ -23,6 +23,8 @@ BEAT, BEAT_AFTER = len(PING), 10
 CUT_REPLICAS, CUTS = 4, 24
 # how many bytes the greatest word has, and a large one
 MOST, LARGE = 512 * MIB, 20 * MIB
+# so many ask for a copy at once, of values of so many bytes
+TWENTY, PIECE = 20, 4096
 # rounds with kills, what their choices are drawn by, and how much of its stream a node keeps then
 ROUNDS, SEED, BACKLOGS = 200, 1, (LITTLE, 1 << 10, 1 << 16, MUCH)
 
@@ -142,6 +144,61 @@ class Copies(Replicating):
             self.assertEqual((it.asks("GET", "k"), it.asks("DBSIZE")), (NIL, number(0)))
         self.comes(lambda: replica.said().offset >= offset + len(request("DEL", "k")))
         self.caught_up(master, replica)
+
+
+class CopiesAtOnce(Replicating):
+    """Many replicas that ask for a whole copy while the master's dataset and stream stay as they are."""
+
+    def asks(self, master, count):
+        """So many that have nothing to continue, of which none reads its copy yet, and the length that is announced to all."""
+        links = [self.client(master, room=1 << 16) for _ in range(count)]
+        for it in links:
+            it.send(GREETS + NOTHING_TO_CONTINUE)
+        lengths = set()
+        for it in links:
+            self.assertEqual(it.receive(len(GREETED)), GREETED)
+            self.assertTrue(it.taken(it.line(0)).startswith(WHOLE))
+            lengths.add(int(it.taken(it.line(0))[1:]))
+        self.assertEqual(len(lengths), 1, lengths)
+        return links, lengths.pop()
+
+    def gets(self, links, wanted):
+        """Each of them gets these bytes next, but for heartbeats."""
+        for it in links:
+            taken = it.receive(len(wanted))
+            while PING in taken:
+                taken = taken.replace(PING, b"") + it.receive(len(PING))
+            self.assertEqual(taken, wanted)
+
+    def test_twenty_share_one_text(self):
+        """Twenty copies of some 8 MiB wait at once, and the master's memory grows by less than four of them; each gets the whole one."""
+        master = self.serve()
+        client = self.client(master)
+        for key in range(8 * MIB // PIECE):
+            self.assertEqual(client.asks("SET", "key:%d" % key, "%d" % (key % 10) * PIECE), OK)
+        before = master.peak()
+        links, length = self.asks(master, TWENTY)
+        self.assertGreater(length, 8 * MIB)
+        self.assertLess(master.peak() - before, 4 * length)
+        texts = {it.receive(length) for it in links}
+        self.assertEqual([len(it) for it in texts], [length])
+        self.assertLess(master.peak() - before, 4 * length)
+        self.assertEqual(texts.pop().count(b"\r\nSET\r\n"), 8 * MIB // PIECE)
+
+    def test_a_write_between_two_is_in_the_second_alone(self):
+        """Who asks behind a write gets a text that has it, and who asked before gets the write behind the text."""
+        master = self.serve()
+        client = self.client(master)
+        self.assertEqual(client.asks("SET", "k", "v" * MIB), OK)
+        first, length = self.asks(master, 2)
+        self.assertEqual(length, len(request("SET", "k", "v" * MIB)))
+        write, last = request("SET", "k", "w"), request("SET", "k", "x")
+        self.assertEqual(client.asks("SET", "k", "w"), OK)
+        second, length = self.asks(master, 2)
+        self.assertEqual(length, len(write))
+        self.assertEqual(client.asks("SET", "k", "x"), OK)
+        self.gets(first, request("SET", "k", "v" * MIB) + write + last)
+        self.gets(second, write + last)
 
 
 class Promotion(Replicating):

@@ -35,16 +35,16 @@ class Unsents(Playing):
     def test_bytes_wait_in_order(self):
         self.plays("unsent", [
             ("shows", "shows 0 empty"),
-            ("waiting", "waiting -"),
+            ("front", "front -"),
             ("push " + spelled("abc"), "pushed"),
             ("push " + spelled("defgh"), "pushed"),
-            ("waiting", "waiting " + spelled("abcdefgh")),
+            ("front", "front " + spelled("abcdefgh")),
             ("advance 2", "advanced"),
-            ("waiting", "waiting " + spelled("cdefgh")),
+            ("front", "front " + spelled("cdefgh")),
             ("advance 4", "advanced"),
             # what was moved is more than what waits, and makes room
             ("push " + spelled("ij"), "pushed"),
-            ("waiting", "waiting " + spelled("ghij")),
+            ("front", "front " + spelled("ghij")),
             ("shows", "shows 4"),
             ("advance 4", "advanced"),
             ("shows", "shows 0 empty"),
@@ -52,7 +52,34 @@ class Unsents(Playing):
             ("clear", "cleared"),
             ("shows", "shows 0 empty"),
             ("push " + spelled("l"), "pushed"),
-            ("waiting", "waiting " + spelled("l")),
+            ("front", "front " + spelled("l")),
+        ])
+
+    def test_a_shared_text_stands_among_them(self):
+        """Before it and behind it bytes of the link's own wait, each part in front once all before it was moved, by whatever counts."""
+        self.plays("unsent", [
+            ("push " + spelled("ab"), "pushed"),
+            ("share " + spelled("TEXT"), "shared"),
+            ("push " + spelled("cd"), "pushed"),
+            # a second one is copied behind all
+            ("share " + spelled("more"), "shared"),
+            ("front", "front " + spelled("ab")),
+            ("advance 1", "advanced"),
+            ("front", "front " + spelled("b")),
+            ("advance 3", "advanced"),
+            ("front", "front " + spelled("XT")),
+            ("advance 3", "advanced"),
+            ("front", "front " + spelled("dmore")),
+            ("share " + spelled("LAST"), "shared"),
+            ("advance 5", "advanced"),
+            ("front", "front " + spelled("LAST")),
+            ("advance 4", "advanced"),
+            ("shows", "shows 0 empty"),
+            ("share " + spelled("ALONE"), "shared"),
+            ("clear", "cleared"),
+            ("shows", "shows 0 empty"),
+            ("push " + spelled("e"), "pushed"),
+            ("front", "front " + spelled("e")),
         ])
 
     def test_a_client_may_leave_64_mib_unread(self):
@@ -67,7 +94,7 @@ class Unsents(Playing):
             ("shows", "shows %d too much" % (MOST_UNSENT + 2)),
             ("advance %d" % MOST_UNSENT, "advanced"),
             ("shows", "shows 2"),
-            ("waiting", "waiting " + spelled("bc")),
+            ("front", "front " + spelled("bc")),
         ])
 
 

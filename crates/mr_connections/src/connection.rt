@@ -1,4 +1,4 @@
-ghost use Rattle.std.specs.Prelude.{◌≡◌, ◌≤◌, ◌<◌, ◌↔◌, [], None, Some, length, IsTrue, OnErr, OnOk};
+ghost use Rattle.std.specs.Prelude.{◌≡◌, ◌≤◌, ◌<◌, ◌↔◌, ◌++◌, ℕ, List, [], None, Some, length, IsTrue, OnErr, OnOk};
 ghost use Rattle.mr_connections.specs.State.{begun, left, most_kept, pushed, wrote};
 ghost use Rattle.mr_unsent.specs.Limits.{most_unsent};
 
@@ -6,6 +6,7 @@ use mr_links::LinkId;
 use mr_unsent::Unsent;
 use std::alloc::{AllocError, Global};
 use std::marker::Model;
+use std::rc::Rc;
 
 /// A read gives no more bytes.
 pub const PIECE: usize = 65_536;
@@ -75,11 +76,12 @@ impl Connection {
         }
     }
 
-    /// What waits to be sent to it.
-    pub fn waiting(&self) -> &[u8]
-        ensures { result.now ≡ self.now.waiting }
+    /// What is to be written to it next: a beginning of what waits, and none of it only where nothing waits.
+    pub fn front(&self) -> &[u8]
+        ensures begins { (rest : List ℕ) × (self.now.waiting ≡ result.now ++ rest) }
+        ensures some { result.now ≡ [] → self.now.waiting ≡ [] }
     {
-        self.unsent.waiting()
+        self.unsent.front()
     }
 
     /// Whether more waits than it may leave unread.
@@ -93,7 +95,7 @@ impl Connection {
     pub fn is_full(&self) -> bool
         ensures { IsTrue result ↔ (most_kept < length self.now.waiting) }
     {
-        self.waiting().len() > MOST_KEPT
+        self.unsent.is_more_than(MOST_KEPT)
     }
 
     /// Whether its end is closed and nothing waits any more.
@@ -114,7 +116,7 @@ impl Connection {
 
     /// Whether so much waits that little more is read of it at once.
     fn has_much(&self) -> bool {
-        self.waiting().len() > MUCH_KEPT
+        self.unsent.is_more_than(MUCH_KEPT)
     }
 
     /// Its replies were large: less of it is read at once.
@@ -165,6 +167,16 @@ impl Connection {
         ensures err { OnErr result (self.new ≡ self.old) }
     {
         self.unsent.push_whole(bytes)?;
+        self.narrow_for_much();
+        Ok(())
+    }
+
+    /// The same of a text that is shared with others.
+    pub(crate) fn push_shared(&mut self, text: Rc<Vec<u8>>) -> Result<(), AllocError>
+        ensures ok { OnOk result (self.new ≡ pushed text.value.items self.old) }
+        ensures err { OnErr result (self.new ≡ self.old) }
+    {
+        self.unsent.push_shared(text)?;
         self.narrow_for_much();
         Ok(())
     }

@@ -11,6 +11,7 @@ use crate::table::Table;
 use mr_links::LinkId;
 use std::alloc::{AllocError, Global};
 use std::marker::Model;
+use std::rc::Rc;
 
 /// So many rounds of writes there are from one connection's rest to the next one's.
 const ROUNDS_APART: u8 = 8;
@@ -221,6 +222,31 @@ impl Connections {
         ensures err { OnErr result (self.new ≡ self.old) }
     {
         one::push_whole(&mut self.rows, socket, bytes)
+    }
+
+    /// As `send`, of a text that is shared with others and isn't copied, unless another such waits already.
+    pub fn send_shared(&mut self, link: LinkId, text: Rc<Vec<u8>>) -> Result<(), AllocError>
+        ensures ok { OnOk result (self.new ≡ sent link text.value.items self.old) }
+        ensures err { OnErr result (self.new ≡ self.old) }
+    {
+        if text.as_slice().is_empty() {
+            return Ok(());
+        }
+        let Some(socket) = self.socket_of(link) else {
+            return Ok(());
+        };
+        self.push_shared(socket, text)?;
+        self.note(socket);
+        Ok(())
+    }
+
+    /// Puts a text behind what waits for a connection that isn't done, as `send_shared` does.
+    fn push_shared(&mut self, socket: LinkId, text: Rc<Vec<u8>>) -> Result<(), AllocError>
+        requires { is_done_at (map.get self.old socket) ≡ false }
+        ensures ok { OnOk result (self.new ≡ changed socket (pushed text.value.items) self.old) }
+        ensures err { OnErr result (self.new ≡ self.old) }
+    {
+        one::push_shared(&mut self.rows, socket, text)
     }
 
     /// A write moved so many of the bytes that wait for a connection.

@@ -7,6 +7,7 @@ use crate::connection::Connection;
 use crate::table::Table;
 use mr_links::LinkId;
 use std::alloc::AllocError;
+use std::rc::Rc;
 
 /// Whether a connection is there under this name and has this link.
 pub(crate) fn has_link(rows: &Table<Connection>, socket: LinkId, link: LinkId) -> bool
@@ -87,6 +88,21 @@ pub(crate) fn push_whole(
 {
     match rows.get_mut(socket) {
         Some(connection) => connection.push_whole(bytes),
+        None => Ok(()),
+    }
+}
+
+/// The same of a text that is shared with others.
+pub(crate) fn push_shared(
+    rows: &mut Table<Connection>,
+    socket: LinkId,
+    text: Rc<Vec<u8>>,
+) -> Result<(), AllocError>
+    ensures ok { OnOk result (rows.new ≡ changed socket (pushed text.value.items) rows.old) }
+    ensures err { OnErr result (rows.new ≡ rows.old) }
+{
+    match rows.get_mut(socket) {
+        Some(connection) => connection.push_shared(text),
         None => Ok(()),
     }
 }

@@ -1,5 +1,5 @@
 -- Events one after another, what is counted in them, and what a fault leaves.
-use Rattle.std.proofs.Common.{◌≡◌, ◌<◌, ◌≤◌, ◌≤ℤ◌, ◌⊎◌, inl, inr, Bool, true, false, ◌||◌, if◌then◌else◌, List, [], ◌∷◌, ◌++◌, ℕ, ℤ, zero, suc, ◌+◌, arith, Option, None, Some, Result, Ok, Err, append_assoc, refl, sym, ap, subst, ◌∙◌}
+use Rattle.std.proofs.Common.{◌≡◌, ◌<◌, ◌≤◌, ◌≤ℤ◌, ◌⊎◌, inl, inr, Bool, true, false, ◌||◌, if◌then◌else◌, List, [], ◌∷◌, ◌++◌, ℕ, ℤ, zero, suc, ◌+◌, arith, None, Some, Result, Ok, Err, append_assoc, refl, sym, ap, subst, ◌∙◌}
 use Rattle.mr_links.specs.declared.link_id.LinkId.{LinkId}
 use Rattle.mr_file.specs.declared.sync_mode.SyncMode.{SyncMode}
 use Rattle.mr_source.specs.Drawn.{DrawnState, with_id, with_moment}

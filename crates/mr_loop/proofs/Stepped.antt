@@ -33,7 +33,7 @@ use Rattle.mr_node.specs.declared.step.Step.{Step}
 use Rattle.mr_node.specs.declared.step.Step.TheVariants as step
 use Rattle.mr_loop.specs.Causes.{Stepped}
 use Rattle.mr_loop.specs.Quiet.{AllWait, Awaits, IsStill, OthersWait}
-use Rattle.mr_loop.proofs.Waiting.{all_is, all_of, by_name, is_one, none_some, others_stay, some_is, still_none, still_shut}
+use Rattle.mr_loop.proofs.Waiting.{all_is, all_of, is_one, none_some, others_stay, some_is, still_none, still_shut}
 
 -- ---- a client's end
 

@@ -1,14 +1,14 @@
 -- What is filed and written: the rows of these events, and how the calls that make them go on from one another.
-use Rattle.std.proofs.Common.{◌≡◌, ◌≢◌, ◌<◌, ◌≤◌, ◌+◌, ◌-◌, ◌⊎◌, inl, inr, ℕ, zero, suc, List, [], Bool, true, cond, length, take, drop, Option, None, Some, MutBor, if◌then◌else◌, arith, refl, sym, ap, subst, ◌∙◌}
+use Rattle.std.proofs.Common.{◌≡◌, ◌≢◌, ◌<◌, ◌≤◌, ◌+◌, ◌-◌, ◌⊎◌, ◌++◌, ◌||◌, inl, inr, ℕ, zero, suc, List, [], Bool, true, cond, length, take, drop, Option, None, Some, MutBor, if◌then◌else◌, arith, refl, sym, ap, subst, ◌∙◌}
 use Rattle.std.specs.Option.{option_map}
-use Rattle.std.proofs.lemmas.List.{length-drop}
+use Rattle.std.proofs.lemmas.List.{length-append, length-drop, take-append-le}
 use Rattle.std.specs.FinMap.{get}
 use Rattle.mr_links.specs.declared.link_id.LinkId.{LinkId}
 use Rattle.mr_file.specs.LogFile.{Rose}
 use Rattle.mr_file.specs.declared.sync_mode.SyncMode.{SyncMode}
 use Rattle.mr_node_spec.specs.State.{NodeState}
 use Rattle.mr_source.specs.Drawn.{DrawnState}
-use Rattle.mr_wire.specs.Wire.{LinkState, ChangesLink, WireState, behind_write, count_of, moves_none, sent_by}
+use Rattle.mr_wire.specs.Wire.{LinkState, ChangesLink, WireState, behind_write, count_of, is_over, moves_none, sent_by, told as told_of}
 use Rattle.mr_wire.specs.declared.wire.Moved.{Moved}
 use Rattle.mr_wire.specs.declared.wire.Moved.TheVariants as moved
 use Rattle.mr_connections.specs.State.{ConnectionState, HasLink, changed, wrote}
@@ -19,7 +19,9 @@ use Rattle.mr_loop.specs.Stage.{Stage, LoopState, connection_at, with_connection
 use Rattle.mr_loop.specs.Hosts.{IsSame, moment_in, stage_in}
 use Rattle.mr_loop.specs.Carrying.{SameFile}
 use Rattle.mr_loop.specs.Causes.{Dropped, Has, HasInput, IsBurdened, IsStuck}
-use Rattle.mr_loop.specs.Writing.{IsWritten, waiting_at, waiting_of}
+use Rattle.mr_loop.specs.Writing.{IsWritten, WroteOn, waiting_at, waiting_of}
+use Rattle.mr_loop.specs.declared.writing.Wrote.{Wrote}
+use Rattle.mr_loop.specs.declared.writing.Wrote.TheVariants as outcome
 use Rattle.mr_loop.specs.Rows.{Breaks, IsDeaf, Writes, closes, is_deaf}
 use Rattle.mr_loop.specs.Counting.{CountsStill, MomentState, counted}
 use Rattle.mr_loop.specs.Going.{Goes}
@@ -63,20 +65,42 @@ none_failed answer (inr e) f = cc
 pub some_failed : (count : ℕ) → moved.Bytes count ≢ moved.Failed
 some_failed count e = cc
 
--- bytes that were moved, as the wire answered it of what waits on the connection
-pub writes_row : {tells : Bool} {s t : Stage} (socket : LinkId) (c : ConnectionState) (answer : Moved) (bytes : List ℕ) → s.own.batch ≡ [] → Some c ≡ connection_at s.own socket → bytes ≡ c.waiting → answer ≢ moved.Failed
+-- these bytes are in front of what waits
+abbrev pub IsInFront : List ℕ → List ℕ → Type 0
+IsInFront bytes waiting = (rest : List ℕ) × (waiting ≡ bytes ++ rest)
+
+-- what is moved of the bytes in front is moved of all that waits
+front_take : (bytes waiting : List ℕ) (count : ℕ) → IsInFront bytes waiting → count ≤ length bytes → take count bytes ≡ take count waiting
+front_take bytes waiting count front within = sym (ap (take count) front.1 ∙ take-append-le count bytes front.0 within)
+
+pub front_within : (bytes waiting : List ℕ) (count : ℕ) → IsInFront bytes waiting → count ≤ length bytes → count ≤ length waiting
+front_within bytes waiting count front within =
+    let all : length waiting ≡ length bytes + length front.0 = ap length front.1 ∙ length-append bytes front.0 in
+    omega (arith, all, within)
+
+-- a link of which a write with this answer moved these bytes
+abbrev behind_moved : Bool → Moved → List ℕ → LinkState → LinkState
+behind_moved tells m bytes e = record e { moved = e.moved ++ told_of tells bytes; ended = e.ended || is_over m; stuck = if tells then moves_none m else e.stuck }
+
+-- a write of the bytes in front is one of all that waits
+front_written : (tells : Bool) (v w : WireState) (l : LinkId) (answer : Moved) (bytes waiting : List ℕ) → IsInFront bytes waiting → count_of answer ≤ length bytes → ChangesLink v l (behind_write tells answer bytes) (sent_by tells answer bytes) w
+    → ChangesLink v l (behind_write tells answer waiting) (sent_by tells answer waiting) w
+front_written tells v w l answer bytes waiting front within written = subst (λ z. ChangesLink v l (behind_moved tells answer z) (told_of tells z) w) (front_take bytes waiting (count_of answer) front within) written
+
+-- bytes that were moved, as the wire answered it of what is in front on the connection
+pub writes_row : {tells : Bool} {s t : Stage} (socket : LinkId) (c : ConnectionState) (answer : Moved) (bytes : List ℕ) → s.own.batch ≡ [] → Some c ≡ connection_at s.own socket → IsInFront bytes c.waiting → answer ≢ moved.Failed
     → count_of answer ≤ length bytes → ChangesLink s.wire socket (behind_write tells answer bytes) (sent_by tells answer bytes) t.wire → (get s.wire.open_links socket ≡ None → t.wire ≡ s.wire) → s.failed ≤ t.failed
     → t.own ≡ with_connections (changed socket (wrote (count_of answer))) s.own → t.node ≡ s.node → SameFile s t → Writes tells socket (take (count_of answer) c.waiting) s t
-writes_row {tells} {s} {t} socket c answer bytes filed here are goes_on within written absent later own node file = record {
+writes_row {tells} {s} {t} socket c answer bytes filed here front goes_on within written absent later own node file = record {
   filed = filed;
   link = c.link;
   waiting = c.waiting;
   has = has_at s.own socket c c.link c.waiting here refl refl;
   answer = answer;
   goes_on = goes_on;
-  within = subst (λ z. count_of answer ≤ length z) are within;
+  within = front_within bytes c.waiting (count_of answer) front within;
   bytes_are = refl;
-  wire = record { changes = subst (λ z. ChangesLink s.wire socket (behind_write tells answer z) (sent_by tells answer z) t.wire) are written; absent = absent };
+  wire = record { changes = front_written tells s.wire t.wire socket answer bytes c.waiting front within written; absent = absent };
   later = later;
   own = own;
   node = node;
@@ -84,24 +108,24 @@ writes_row {tells} {s} {t} socket c answer bytes filed here are goes_on within w
 }
 
 -- .. and a write that moved none, where it is answered so
-pub writes_none : {tells : Bool} {s t : Stage} (socket : LinkId) (c : ConnectionState) (answer : Moved) (bytes : List ℕ) → (answer ≡ moved.NotReady) ⊎ (answer ≡ moved.End) → s.own.batch ≡ [] → Some c ≡ connection_at s.own socket → bytes ≡ c.waiting
+pub writes_none : {tells : Bool} {s t : Stage} (socket : LinkId) (c : ConnectionState) (answer : Moved) (bytes : List ℕ) → (answer ≡ moved.NotReady) ⊎ (answer ≡ moved.End) → s.own.batch ≡ [] → Some c ≡ connection_at s.own socket → IsInFront bytes c.waiting
     → count_of answer ≤ length bytes → ChangesLink s.wire socket (behind_write tells answer bytes) (sent_by tells answer bytes) t.wire → (get s.wire.open_links socket ≡ None → t.wire ≡ s.wire) → s.failed ≤ t.failed
     → t.own ≡ with_connections (changed socket (wrote 0)) s.own → t.node ≡ s.node → SameFile s t → Writes tells socket (take 0 c.waiting) s t
-writes_none {tells} {s} {t} socket c answer bytes none filed here are within written absent later own node file =
+writes_none {tells} {s} {t} socket c answer bytes none filed here front within written absent later own node file =
     let zero = none_moved answer none in
     subst (λ n. Writes tells socket (take n c.waiting) s t) zero
-    (writes_row socket c answer bytes filed here are (none_failed answer none) within written absent later (own ∙ ap (λ n. with_connections (changed socket (wrote n)) s.own) (sym zero)) node file)
+    (writes_row socket c answer bytes filed here front (none_failed answer none) within written absent later (own ∙ ap (λ n. with_connections (changed socket (wrote n)) s.own) (sym zero)) node file)
 
 -- .. and one that failed
-pub breaks_row : {tells : Bool} {s t : Stage} (socket : LinkId) (c : ConnectionState) (link : Option LinkId) (bytes : List ℕ) (wire : WireState) (failed : ℕ) → s.own.batch ≡ [] → Some c ≡ connection_at s.own socket → link ≡ c.link → bytes ≡ c.waiting
+pub breaks_row : {tells : Bool} {s t : Stage} (socket : LinkId) (c : ConnectionState) (link : Option LinkId) (bytes : List ℕ) (wire : WireState) (failed : ℕ) → s.own.batch ≡ [] → Some c ≡ connection_at s.own socket → link ≡ c.link → IsInFront bytes c.waiting
     → ChangesLink s.wire socket (behind_write tells moved.Failed bytes) (sent_by tells moved.Failed bytes) wire → (get s.wire.open_links socket ≡ None → wire ≡ s.wire) → Rose s.failed failed → Dropped socket link (record s { wire = wire; failed = failed }) t → Breaks tells socket s t
-breaks_row {tells} {s} {t} socket c link bytes wire failed filed here linked are written absent rose dropped = record {
+breaks_row {tells} {s} {t} socket c link bytes wire failed filed here linked front written absent rose dropped = record {
   filed = filed;
   link = link;
   waiting = c.waiting;
   has = has_at s.own socket c link c.waiting here (sym linked) refl;
   wire = wire;
-  touched = record { changes = subst (λ z. ChangesLink s.wire socket (behind_write tells moved.Failed z) (sent_by tells moved.Failed z) wire) are written; absent = absent };
+  touched = record { changes = front_written tells s.wire wire socket moved.Failed bytes c.waiting front (omega arith) written; absent = absent };
   failed = failed;
   rose = rose;
   dropped = dropped;
@@ -127,7 +151,7 @@ none_stuck v w l answer bytes (inl e) written absent = stuck_now v w l answer by
 none_stuck v w l answer bytes (inr e) written absent = stuck_now v w l answer bytes (none_failed answer (inr e)) (ap moves_none e) written absent
 
 -- what waits on a connection that is there, before a write and behind it
-waits_at : (o : LoopState) (socket : LinkId) (c : ConnectionState) → Some c ≡ connection_at o socket → waiting_at o socket ≡ c.waiting
+pub waits_at : (o : LoopState) (socket : LinkId) (c : ConnectionState) → Some c ≡ connection_at o socket → waiting_at o socket ≡ c.waiting
 waits_at o socket c here = ap waiting_of (sym here)
 
 wrote_at : (o p : LoopState) (socket : LinkId) (c : ConnectionState) (count : ℕ) → Some c ≡ connection_at o socket → p ≡ with_connections (changed socket (wrote count)) o → waiting_at p socket ≡ drop count c.waiting
@@ -142,6 +166,11 @@ wrote_less o p socket c count here is some within =
     let before : length (waiting_at o socket) ≡ length c.waiting = ap length (waits_at o socket c here) in
     let behind : length (waiting_at p socket) ≡ length c.waiting - count = ap length (wrote_at o p socket c count here is) ∙ length-drop count c.waiting in
     omega (arith, before, behind, some, within)
+
+-- a write that moved something, all that was in front or not
+pub moved_on : (tells : Bool) (r : Wrote) (w : WireState) (socket link : LinkId) (a b : NodeState) (o p : LoopState) → (r ≡ outcome.Whole) ⊎ (r ≡ outcome.Some) → WroteOn tells r w socket link a b o p → WroteOn tells outcome.Some w socket link a b o p
+moved_on tells r w socket link a b o p (inl e) h = subst (λ z. WroteOn tells z w socket link a b o p) e h
+moved_on tells r w socket link a b o p (inr e) h = subst (λ z. WroteOn tells z w socket link a b o p) e h
 
 -- a client that left too much unread is one to whom a write moved nothing
 pub burdened_stuck : {tells : Bool} (a : NodeState) (o : LoopState) (w : WireState) (socket link : LinkId) → IsBurdened a o socket link → IsWritten tells w socket link o → IsStuck tells w socket

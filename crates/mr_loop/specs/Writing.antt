@@ -25,6 +25,7 @@ pub record IsWritten (tells : Bool) (wire : WireState) (socket link : LinkId) (o
 
 -- It is there with its link, and less waits; or as much, and no more can be moved; or the node's end is closed with it.
 abbrev pub WroteOn : Bool → Wrote → WireState → LinkId → LinkId → NodeState → NodeState → LoopState → LoopState → Type 0
+WroteOn tells wrote.Whole wire socket link a b o p = (b ≡ a) × HasLink p.connections socket link × (length (waiting_at p socket) < length (waiting_at o socket))
 WroteOn tells wrote.Some wire socket link a b o p = (b ≡ a) × HasLink p.connections socket link × (length (waiting_at p socket) < length (waiting_at o socket))
 WroteOn tells wrote.Nothing wire socket link a b o p = (b ≡ a) × IsWritten tells wire socket link p
 WroteOn tells wrote.Gone wire socket link a b o p = b ≡ closed_at link a

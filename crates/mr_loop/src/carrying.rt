@@ -41,7 +41,7 @@ impl<W: Wire, F: LogFile, S: Source> Host<'_, '_, W, F, S> {
         Ok(())
     }
 
-    /// All outs are carried out, one after another. Long texts and a long reply go with their memory.
+    /// All outs are carried out, one after another. Long texts and a long reply go with their memory, and a shared text isn't copied.
     fn carry_all(&mut self, outs: &mut Outs) -> Result<(), LoopFault>
         ensures carried { CarriesAs result (outs_of outs.old)
             (stage_in W.links W.failures F.told F.synced self.old)
@@ -51,6 +51,24 @@ impl<W: Wire, F: LogFile, S: Source> Host<'_, '_, W, F, S> {
         ensures device { IsErrOf result LoopFault.File → self.new.log.now.broken ≡ true }
     {
         self.carry_first(outs)?;
+        match outs.take_shared() {
+            Some((link, text)) => {
+                self.carry_out(outs)?;
+                kept(self.own.send_shared(link, text))
+            }
+            None => self.carry_last(outs),
+        }
+    }
+
+    /// All outs are carried out, one after another. A long reply goes with its memory.
+    fn carry_last(&mut self, outs: &mut Outs) -> Result<(), LoopFault>
+        ensures carried { CarriesAs result (outs_of outs.old)
+            (stage_in W.links W.failures F.told F.synced self.old)
+            (stage_in W.links W.failures F.told F.synced self.new) }
+        ensures moment { moment_in S.drawn self.new ≡ moment_in S.drawn self.old }
+        ensures same { IsSame W.waited self.old self.new }
+        ensures device { IsErrOf result LoopFault.File → self.new.log.now.broken ≡ true }
+    {
         match outs.take_last() {
             Some((link, mut reply)) => {
                 self.carry_out(outs)?;

@@ -13,6 +13,7 @@ use std::alloc::{AllocError, Global};
 use std::hash::RandomState;
 use std::marker::Model;
 use std::mem;
+use std::rc::Rc;
 
 /// A turn waits so many milliseconds at most.
 const LONGEST_WAIT: u64 = 100;
@@ -296,6 +297,21 @@ impl Links {
         ensures err { OnErr result (self.new ≡ lacking self.old) }
     {
         match self.connections.send_whole(link, bytes) {
+            Ok(()) => Ok(()),
+            Err(refused) => {
+                self.lack();
+                Err(refused)
+            }
+        }
+    }
+
+    /// As `send`, of a text that is shared with others and isn't copied.
+    pub(crate) fn send_shared(&mut self, link: LinkId, text: Rc<Vec<u8>>) -> Result<(), AllocError>
+        ensures ok { OnOk result (self.new ≡
+            with_connections (sent link text.value.items) self.old) }
+        ensures err { OnErr result (self.new ≡ lacking self.old) }
+    {
+        match self.connections.send_shared(link, text) {
             Ok(()) => Ok(()),
             Err(refused) => {
                 self.lack();

@@ -14,9 +14,14 @@ use mr_links::LinkId;
 use mr_source::Source;
 use mr_wire::{Moved, Wire};
 
+/// Of at most so many pieces is what waits on a connection: of bytes of its own, of a text that is shared, and of its own again.
+const PIECES: usize = 3;
+
 /// What a write came to.
 #[derive(Clone, Copy)]
 pub(crate) enum Wrote {
+    /// All that was in front was moved, and more may wait.
+    Whole,
     /// Bytes were moved.
     Some,
     /// Nothing waits, or nothing can be moved now.
@@ -38,10 +43,28 @@ impl<W: Wire, F: LogFile, S: Source> Host<'_, '_, W, F, S> {
     {
         for index in 0..self.own.noted_count() {
             if let Some(socket) = self.own.noted_at(index) {
-                let _wrote = self.write_once(socket);
+                self.write_pieces(socket);
             }
         }
         self.own.forget_noted();
+    }
+
+    /// Writes what waits on a connection: each piece once, until less of one is moved than there is.
+    fn write_pieces(&mut self, socket: LinkId)
+        requires { self.old.own.now.batch ≡ [] }
+        ensures went { Goes W.tells W.links W.failures F.told F.synced S.drawn self.old self.new }
+        ensures same { IsSame W.waited self.old self.new }
+        ensures batch { self.new.own.now.batch ≡ [] }
+        ensures moment { moment_in S.drawn self.new ≡ moment_in S.drawn self.old }
+        ensures core { self.new.node.now.core ≡ self.old.node.now.core }
+        ensures quiet { AllWait self.old.node.now → AllWait self.new.node.now }
+    {
+        for _ in 0..PIECES {
+            match self.write_once(socket) {
+                Wrote::Whole => {}
+                Wrote::Some | Wrote::Nothing | Wrote::Gone => return,
+            }
+        }
     }
 
     /// Writes what waits on a connection until nothing more is moved. It answers whether the connection is still there.
@@ -58,14 +81,14 @@ impl<W: Wire, F: LogFile, S: Source> Host<'_, '_, W, F, S> {
     {
         loop {
             match self.write_once(socket) {
-                Wrote::Some => {}
+                Wrote::Whole | Wrote::Some => {}
                 Wrote::Nothing => return true,
                 Wrote::Gone => return false,
             }
         }
     }
 
-    /// Writes what waits on a connection, once. Where that fails, the connection is closed.
+    /// Writes what is in front of what waits on a connection, once. Where that fails, the connection is closed.
     fn write_once(&mut self, socket: LinkId) -> Wrote
         requires { self.old.own.now.batch ≡ [] }
         ensures went { Goes W.tells W.links W.failures F.told F.synced S.drawn self.old self.new }
@@ -81,14 +104,18 @@ impl<W: Wire, F: LogFile, S: Source> Host<'_, '_, W, F, S> {
         let Some(connection) = self.own.connection(socket) else {
             return Wrote::Gone;
         };
-        if connection.waiting().is_empty() {
+        let front = connection.front();
+        if front.is_empty() {
             return Wrote::Nothing;
         }
+        let length = front.len();
         let link = connection.link();
-        match self.wire.write(socket, connection.waiting()) {
+        match self.wire.write(socket, front) {
             Moved::Bytes(count) => {
                 self.own.wrote(socket, count);
-                if count > 0 {
+                if count >= length {
+                    Wrote::Whole
+                } else if count > 0 {
                     Wrote::Some
                 } else {
                     Wrote::Nothing

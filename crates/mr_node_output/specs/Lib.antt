@@ -1,3 +1,4 @@
 pub mod Address
 pub mod Outs
 pub mod Listing
+pub mod Replies

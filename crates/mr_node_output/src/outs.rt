@@ -1,11 +1,12 @@
 // What a step gives out.
-ghost use Rattle.std.specs.Prelude.{◌≡◌, ◌++◌, ◌∷◌, [], ◌+◌, true, false, length, nat_le, if◌then◌else◌, IfOk, IfSome, IfNone, IsTrue, OnOk, Some};
+ghost use Rattle.std.specs.Prelude.{◌≡◌, ◌++◌, ◌∷◌, [], ◌+◌, true, false, length, nat_le, if◌then◌else◌, IfOk, IfSome, IfNone, IsTrue, None, OnOk, Some};
 ghost use Rattle.std.specs.Option.{option_map, option_copied};
 ghost use Rattle.mr_resp.specs.Replies.{reply_text};
 ghost use Rattle.mr_resp.specs.Spelling.{number_line};
 ghost use Rattle.mr_resp.specs.ReplyView.{view};
 ghost use Rattle.mr_effect.specs.Spelling.{size, text, texts};
 ghost use Rattle.mr_effect.specs.declared.effect.Effect.TheVariants as effect;
+ghost use Rattle.mr_node_output.specs.Replies.{said};
 ghost use Rattle.mr_node_output.specs.Outs.{EndsWithReply, append, grown_outs, no_outs, outs_of, send};
 
 use crate::address::Address;
@@ -18,6 +19,7 @@ use mr_resp::{Reply, push_word_count, write_reply};
 use std::alloc::{AllocError, Global};
 use std::marker::Model;
 use std::mem;
+use std::rc::Rc;
 
 /// What a step gives out. A node uses its buffers again.
 pub struct Outs {
@@ -29,6 +31,8 @@ pub struct Outs {
     filed: usize,
     fed: Vec<LinkId>,
     reply: Vec<u8>,
+    /// A text that is shared with other steps, in place of a reply of its own.
+    shared: Option<Rc<Vec<u8>>>,
     closed: Vec<LinkId>,
     replaced: Option<Vec<u8>>,
     follows: Option<Address>,
@@ -50,6 +54,7 @@ impl Drop for Outs {
             filed: _,
             fed: _,
             reply: _,
+            shared: _,
             closed: _,
             replaced: _,
             follows: _,
@@ -65,6 +70,7 @@ impl Model for Outs {
     ghost use Rattle.std.specs.Prelude.{◌≤◌, length, take, [], if◌then◌else◌};
     ghost use Rattle.std.specs.Option.{option_map};
     ghost use Rattle.mr_node_output.specs.Outs.{OutsState, outs_code};
+    ghost use Rattle.mr_node_output.specs.Replies.{said};
 
     ghost Value = { OutsState };
 
@@ -76,7 +82,7 @@ impl Model for Outs {
       appended = take o.filed o.texts.items;
       replaced = option_map (λ bytes. bytes.items) o.replaced;
       fed = o.fed.items;
-      reply = o.reply.items;
+      reply = said (option_map (λ t. t.value.items) o.shared) o.reply.items;
       closes = o.closes;
       closed = o.closed.items;
       used = o.used;
@@ -141,7 +147,10 @@ impl Outs {
     pub fn reply(&self) -> &[u8]
         ensures { result.now ≡ self.now.reply }
     {
-        self.reply.as_slice()
+        match &self.shared {
+            None => self.reply.as_slice(),
+            Some(text) => text.as_slice(),
+        }
     }
 
     /// Whether the node closed the link.
@@ -203,17 +212,42 @@ impl Outs {
         Some(mem::replace(&mut self.texts, Vec::new(self.alloc)))
     }
 
-    /// Takes out the reply, where it is long and nothing is carried out behind it.
+    /// Takes out the reply, where it is long, the step's own, and nothing is carried out behind it.
     pub fn take_last(&mut self) -> Option<(LinkId, Vec<u8>)>
         ensures some { IfSome result (λ reply.
             outs_of self.old ≡ outs_of self.new ++ send reply.0 reply.1.items ∷ []) }
         ensures none { IfNone result (self.new ≡ self.old) }
     {
-        if self.reply.len() < LONG || !self.ends_with_the_reply() {
+        if self.shared.is_some() || self.reply.len() < LONG || !self.ends_with_the_reply() {
             return None;
         }
         let link = self.link?;
         Some((link, mem::replace(&mut self.reply, Vec::new(self.alloc))))
+    }
+
+    /// Takes out the reply, where it is a long text that is shared with other steps and nothing is carried out behind it.
+    pub fn take_shared(&mut self) -> Option<(LinkId, Rc<Vec<u8>>)>
+        ensures some { IfSome result (λ reply.
+            outs_of self.old ≡ outs_of self.new ++ send reply.0 reply.1.value.items ∷ []) }
+        ensures none { IfNone result (self.new ≡ self.old) }
+    {
+        if self.reply().len() < LONG || !self.ends_with_the_reply() {
+            return None;
+        }
+        let link = self.link?;
+        let text = self.take_text()?;
+        Some((link, text))
+    }
+
+    /// Takes out the text that is shared with other steps, if it is what is sent on the link.
+    fn take_text(&mut self) -> Option<Rc<Vec<u8>>>
+        ensures said { IfSome result (λ text. self.old.reply ≡ text.value.items) }
+        ensures rest { IfSome result (λ _. self.new ≡ record self.old { reply = [] }) }
+        ensures none { IfNone result (self.new ≡ self.old) }
+    {
+        let text = self.shared.take()?;
+        self.reply.clear();
+        Some(text)
     }
 
     /// Takes room for texts, in place of those that are here.
@@ -231,6 +265,7 @@ impl Outs {
     {
         room.clear();
         self.reply = room;
+        self.shared = None;
     }
 
     /// Whether nothing is carried out behind the reply.
@@ -267,6 +302,7 @@ impl Outs {
             filed: 0,
             fed,
             reply,
+            shared: None,
             closed: Vec::new(alloc),
             replaced: None,
             follows: None,
@@ -286,6 +322,7 @@ impl Outs {
             filed: _,
             fed,
             reply,
+            shared: _,
             closed: _,
             replaced: _,
             follows: _,
@@ -447,6 +484,7 @@ impl Outs {
         ensures { OnOk result (self.new ≡
             record self.old { reply = self.old.reply ++ reply_text (view reply.now) }) }
     {
+        make_own(&mut self.reply, &mut self.shared)?;
         write_reply(reply, &mut self.reply)
     }
 
@@ -455,6 +493,7 @@ impl Outs {
         ensures { OnOk result (self.new ≡
             record self.old { reply = self.old.reply ++ 42 ∷ number_line count }) }
     {
+        make_own(&mut self.reply, &mut self.shared)?;
         push_word_count(&mut self.reply, count)
     }
 
@@ -463,7 +502,15 @@ impl Outs {
         ensures { OnOk result (self.new ≡
             record self.old { reply = self.old.reply ++ bytes.now }) }
     {
+        make_own(&mut self.reply, &mut self.shared)?;
         self.reply.extend_from_slice(bytes)
+    }
+
+    /// A text that is shared with other steps is what is sent on the link.
+    pub fn say_shared(&mut self, text: Rc<Vec<u8>>)
+        ensures { self.new ≡ record self.old { reply = text.value.items } }
+    {
+        self.shared = Some(text);
     }
 
     /// The append-only file is replaced by these bytes.
@@ -537,6 +584,7 @@ impl Outs {
         ensures { self.new ≡ record self.old { reply = line.items } }
     {
         self.reply = line;
+        self.shared = None;
     }
 
     /// The text of an effect was applied, which goes behind the file, or doesn't.
@@ -548,4 +596,18 @@ impl Outs {
         self.texts = text;
         self.grows = false;
     }
+}
+
+/// A reply that is shared with other steps becomes the step's own: its text is copied.
+fn make_own(reply: &mut Vec<u8>, shared: &mut Option<Rc<Vec<u8>>>) -> Result<(), AllocError>
+    ensures none { OnOk result (shared.new ≡ None) }
+    ensures same { OnOk result (reply.new.items ≡
+        said (option_map (λ t. t.value.items) shared.old) reply.old.items) }
+{
+    let Some(text) = shared.take() else {
+        return Ok(());
+    };
+    reply.clear();
+    reply.extend_from_slice(text.as_slice())?;
+    Ok(())
 }

@@ -1,11 +1,12 @@
 // What a node holds.
-ghost use Rattle.std.specs.Prelude.{◌≡◌, ◌<◌, IfSome, true, None};
+ghost use Rattle.std.specs.Prelude.{◌≡◌, ◌<◌, IfOk, IfSome, true, None};
 ghost use Rattle.std.specs.FinMap as map;
 ghost use Rattle.std.specs.Option.{option_copied};
 ghost use Rattle.mr_replication.specs.State.{CountsUnread, IsCourse, name_of, phase_of};
 ghost use Rattle.mr_repl.specs.ReplId.{IsId};
 ghost use Rattle.mr_node_spec.specs.State.{IsNode, course_of};
 ghost use Rattle.mr_node_spec.specs.Sound.{IsSound, ports};
+ghost use Rattle.mr_node_state.specs.Copies.{IsCopy};
 ghost use Rattle.mr_node_state.specs.Parts.{node_of};
 
 mod linking;
@@ -13,6 +14,7 @@ mod roles;
 mod streaming;
 mod waiting;
 
+use crate::held::Held;
 use mr_data::Dataset;
 use mr_follower::Phase;
 use mr_links::LinkId;
@@ -20,8 +22,9 @@ use mr_node_links::Ends;
 use mr_node_output::Address;
 use mr_repl::{Lineage, ReplId};
 use mr_replication::Course;
-use std::alloc::Global;
+use std::alloc::{AllocError, Global};
 use std::marker::Model;
+use std::rc::Rc;
 
 /// What a node holds: its course with its stream, its dataset, its ends of its links, whom it was told to follow, and the moment
 /// from which its next heartbeat or acknowledgement is counted.
@@ -33,7 +36,7 @@ pub struct State {
     upstream: Option<Address>,
     mark: Option<i64>,
     course: Course,
-    held: Dataset,
+    held: Held,
     ends: Ends,
 }
 
@@ -65,7 +68,7 @@ impl State {
             upstream: None,
             mark: None,
             course,
-            held,
+            held: Held::of(alloc, held),
             ends: Ends::new(alloc),
         }
     }
@@ -105,7 +108,22 @@ impl State {
     pub fn held(&self) -> &Dataset
         ensures { result.now ≡ self.now.core.held }
     {
-        &self.held
+        self.held.dataset()
+    }
+
+    /// The text of a whole copy of its dataset, at its id and its offset. It is made once for all that ask while the dataset and the
+    /// stream stay as they are.
+    pub fn copy(&mut self) -> Result<Rc<Vec<u8>>, AllocError>
+        ensures text { IfOk result (λ t.
+            IsCopy self.old.core.lineage.id self.old.core.lineage.stream.offset self.old.core.held
+            t.value.items) }
+        ensures same { self.new ≡ self.old }
+    {
+        let lineage = self.course.lineage();
+        let id = lineage.id();
+        let offset = lineage.stream().end();
+        let text = self.held.copy(id, offset)?;
+        Ok(text)
     }
 
     /// Whom it was told to follow, since it was started or promoted.

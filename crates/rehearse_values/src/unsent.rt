@@ -5,6 +5,7 @@ use crate::step::{Step, bytes_of, count_of};
 use crate::telling::{tell, tell_bytes, tell_shown, tell_whether};
 use mr_unsent::Unsent;
 use std::alloc::Global;
+use std::rc::Rc;
 
 /// No more zeros wait by one step.
 const MOST: u64 = 1 << 30;
@@ -27,9 +28,14 @@ impl Kind for Unsent {
                 self.clear();
                 tell(out, "cleared")
             }
-            "waiting" => {
-                tell(out, "waiting")?;
-                tell_bytes(alloc, self.waiting(), out)
+            "share" => {
+                let text = bytes_of(alloc, step.first)?;
+                self.push_shared(Rc::new(alloc, text)?)?;
+                tell(out, "shared")
+            }
+            "front" => {
+                tell(out, "front")?;
+                tell_bytes(alloc, self.front(), out)
             }
             "shows" => tell_length(alloc, self, out),
             _ => Err(RehearsalFault::Line),
@@ -61,17 +67,17 @@ fn fill(
 /// So many bytes were sent. Fails where fewer wait.
 fn advance(unsent: &mut Unsent, step: Step<'_>, out: &mut Vec<u8>) -> Result<(), RehearsalFault> {
     let count = count_of(step.first)? as usize;
-    if count > unsent.waiting().len() {
+    if count > 0 && !unsent.is_more_than(count - 1) {
         return Err(RehearsalFault::Line);
     }
     unsent.advance(count);
     tell(out, "advanced")
 }
 
-/// How many bytes wait, whether none does, and whether more do than a client may leave unread.
+/// How many bytes are in front, whether none waits, and whether more wait than a client may leave unread.
 fn tell_length(alloc: Global, unsent: &Unsent, out: &mut Vec<u8>) -> Result<(), RehearsalFault> {
     tell(out, "shows")?;
-    tell_shown(alloc, unsent.waiting().len(), out)?;
+    tell_shown(alloc, unsent.front().len(), out)?;
     tell_whether(out, unsent.is_empty(), " empty", "")?;
     tell_whether(out, unsent.is_too_much(), " too much", "")
 }

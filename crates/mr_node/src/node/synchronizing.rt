@@ -19,8 +19,8 @@ use crate::request::StreamWish;
 use crate::step::Outcome;
 use mr_links::LinkId;
 use mr_node_output::Outs;
-use mr_peer_lines::{write_continue, write_full, write_length};
-use mr_repl::{OFFSET_LIMIT, PsyncAnswer, decide};
+use mr_peer_lines::write_continue;
+use mr_repl::{PsyncAnswer, decide};
 use std::alloc::AllocError;
 
 impl Node {
@@ -52,10 +52,11 @@ impl Node {
     }
 
     /// The answer to PSYNC: the stream from the byte that is wanted, where it may be continued there, and else the whole dataset.
-    fn put_stream(&self, id: &[u8], wanted: i64, outs: &mut Outs) -> Result<(), AllocError>
+    fn put_stream(&mut self, id: &[u8], wanted: i64, outs: &mut Outs) -> Result<(), AllocError>
         requires { outs.old.reply ≡ [] }
-        ensures { OnOk result
-            (Offers self.now.core.lineage self.now.core.held id.now wanted outs.old outs.new) }
+        ensures offers { OnOk result
+            (Offers self.old.core.lineage self.old.core.held id.now wanted outs.old outs.new) }
+        ensures same { self.new ≡ self.old }
     {
         match decide(id, wanted, &self.state.lineage().standing()) {
             PsyncAnswer::Continue(from) => self.put_tail(from, outs),
@@ -82,26 +83,19 @@ impl Node {
         outs.say_bytes(tail.as_slice())
     }
 
-    /// The line that says so, and what rebuilds the dataset behind its length.
-    fn put_dataset(&self, outs: &mut Outs) -> Result<(), AllocError>
-        requires { outs.old.reply ≡ [] }
-        ensures remakes { OnOk result (Remakes (rebuilding self.now.core.held) self.now.core.held) }
-        ensures counted { OnOk result (length (rebuilt self.now.core.held) ≤ offset_limit) }
+    /// The line that says so, and what rebuilds the dataset behind its length. Who asks at the same offset shares the text.
+    fn put_dataset(&mut self, outs: &mut Outs) -> Result<(), AllocError>
+        ensures remakes { OnOk result (Remakes (rebuilding self.old.core.held) self.old.core.held) }
+        ensures counted { OnOk result (length (rebuilt self.old.core.held) ≤ offset_limit) }
         ensures text { OnOk result (outs.new ≡ record outs.old {
           reply = reply_line
-              (FullResync self.now.core.lineage.id self.now.core.lineage.stream.offset) ++
-              (length_line (length (rebuilt self.now.core.held)) ++ rebuilt self.now.core.held);
+              (FullResync self.old.core.lineage.id self.old.core.lineage.stream.offset) ++
+              (length_line (length (rebuilt self.old.core.held)) ++ rebuilt self.old.core.held);
         }) }
+        ensures same { self.new ≡ self.old }
     {
-        let lineage = self.state.lineage();
-        let texts = self.state.held().rebuild(self.alloc)?;
-        if texts.len() as u64 > OFFSET_LIMIT {
-            return Err(AllocError);
-        }
-        let mut lines = Vec::new(self.alloc);
-        write_full(lineage.id(), lineage.stream().end(), &mut lines)?;
-        write_length(texts.len() as u64, &mut lines)?;
-        outs.say_bytes(lines.as_slice())?;
-        outs.say_bytes(texts.as_slice())
+        let text = self.state.copy()?;
+        outs.say_shared(text);
+        Ok(())
     }
 }

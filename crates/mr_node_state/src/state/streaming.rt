@@ -63,6 +63,7 @@ impl State {
             let _ = self.course.lineage().stream().end();
             return;
         }
+        self.held.forget_copy();
         self.course.grow(told);
     }
 
@@ -75,7 +76,7 @@ impl State {
         let Some(name) = self.course.name() else {
             unreachable!()
         };
-        match self.course.listen(self.alloc, &mut self.held, out) {
+        match self.held.listen(&mut self.course, out) {
             Err(UpstreamFault::Memory) => Err(UpstreamFault::Memory),
             Err(UpstreamFault::Stopped) => {
                 self.up = false;

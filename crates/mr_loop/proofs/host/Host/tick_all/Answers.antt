@@ -1,5 +1,5 @@
-use Rattle.std.proofs.Common.{rules, ◌≡◌, ◌∙◌, ◌+◌, ◌-◌, arith, ap, sym, subst, Err}
-use Rattle.mr_loop.specs.Counting.{IsTickDue, Passes, most_ticks}
+use Rattle.std.proofs.Common.{rules, ◌≡◌, ◌∙◌, ◌+◌, ◌-◌, arith, ap, subst, Err}
+use Rattle.mr_loop.specs.Counting.{Passes, most_ticks}
 use Rattle.mr_loop.specs.Hosts.{moment_in, stage_in}
 use Rattle.mr_loop.proofs.Same.{same_here, same_on}
 use Rattle.mr_loop.proofs.Ticks.{all_passed, breaks_passing, enough_passed, none_passed, one_passed, passes_moded}

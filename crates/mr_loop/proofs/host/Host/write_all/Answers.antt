@@ -7,19 +7,19 @@ use Rattle.mr_loop.proofs.host.Host.write_all.Goals.{in-Some, in_default}
 pub loop-index-init : goal.loop-index-init
 loop-index-init g c = written_first g.W.Wire.tells g.W.Wire.links g.W.Wire.failures g.W.Wire.waited g.F.LogFile.told g.F.LogFile.synced g.S.Source.drawn c.args.self.now c.requires
 
-pub write_once-wrote-requires : goal.write_once-wrote-requires
-write_once-wrote-requires g c = c.loop-index.invariant.batch
+pub write_pieces-requires : goal.write_pieces-requires
+write_pieces-requires g c = c.loop-index.invariant.batch
 
 pub loop-index-preserved : goal.loop-index-preserved
 loop-index-preserved g c = elim c.match-noted_at.branch [
   | in-Some w ↦ subst (HasWritten g.W.Wire.tells g.W.Wire.links g.W.Wire.failures g.W.Wire.waited g.F.LogFile.told g.F.LogFile.synced g.S.Source.drawn c.args.self.now) (sym w.self-is)
-      (written_on g.W.Wire.tells g.W.Wire.links g.W.Wire.failures g.W.Wire.waited g.F.LogFile.told g.F.LogFile.synced g.S.Source.drawn c.args.self.now c.loop-index.self w.write_once-wrote.new.self c.loop-index.invariant (record {
-        went = w.write_once-wrote.ensures.went;
-        same = w.write_once-wrote.ensures.same;
-        batch = w.write_once-wrote.ensures.batch;
-        moment = w.write_once-wrote.ensures.moment;
-        core = w.write_once-wrote.ensures.core;
-        quiet = w.write_once-wrote.ensures.quiet;
+      (written_on g.W.Wire.tells g.W.Wire.links g.W.Wire.failures g.W.Wire.waited g.F.LogFile.told g.F.LogFile.synced g.S.Source.drawn c.args.self.now c.loop-index.self w.write_pieces.new.self c.loop-index.invariant (record {
+        went = w.write_pieces.ensures.went;
+        same = w.write_pieces.ensures.same;
+        batch = w.write_pieces.ensures.batch;
+        moment = w.write_pieces.ensures.moment;
+        core = w.write_pieces.ensures.core;
+        quiet = w.write_pieces.ensures.quiet;
       }))
   | in_default w ↦ subst (HasWritten g.W.Wire.tells g.W.Wire.links g.W.Wire.failures g.W.Wire.waited g.F.LogFile.told g.F.LogFile.synced g.S.Source.drawn c.args.self.now) (sym w.self-is) c.loop-index.invariant
 ]

@@ -1,6 +1,6 @@
 use Rattle.std.proofs.Common.{ap, ◌∙◌}
 use Rattle.mr_node_spec.specs.LinkRows.{closed_at}
-use Rattle.mr_loop.proofs.Writes.{still_then, writes_first, writes_on}
+use Rattle.mr_loop.proofs.Writes.{moved_on, still_then, writes_first, writes_on}
 use Rattle.mr_loop.proofs.Same.{same_on}
 use Rattle.mr_loop.proofs.host.Host.write_ready.Goals as goal
 
@@ -36,7 +36,7 @@ returns-in-Gone-clause-gone g c = λ gone. c.in-Gone.ensures.wrote c.args.link c
 
 pub loop-preserved : goal.loop-preserved
 loop-preserved g c =
-    let wrote = c.in-Some.ensures.wrote c.args.link c.loop.invariant.has in
+    let wrote = (moved_on g.W.Wire.tells c.write_once.result (g.W.Wire.links c.write_once.new.self.wire.now) c.args.socket c.args.link c.loop.self.node.now c.write_once.new.self.node.now c.loop.self.own.now c.write_once.new.self.own.now c.in-Whole.is (c.write_once.ensures.wrote c.args.link c.loop.invariant.has)) in
     writes_on g.W.Wire.tells g.W.Wire.links g.W.Wire.failures g.W.Wire.waited g.F.LogFile.told g.F.LogFile.synced g.S.Source.drawn c.args.socket c.args.link c.args.self.now c.loop.self c.write_once.new.self c.loop.invariant (record {
       went = c.write_once.ensures.went;
       same = c.write_once.ensures.same;
@@ -48,4 +48,4 @@ loop-preserved g c =
 
 -- each write that goes on leaves less
 pub loop-smaller : goal.loop-smaller
-loop-smaller g c = (c.in-Some.ensures.wrote c.args.link c.loop.invariant.has).2
+loop-smaller g c = (moved_on g.W.Wire.tells c.write_once.result (g.W.Wire.links c.write_once.new.self.wire.now) c.args.socket c.args.link c.loop.self.node.now c.write_once.new.self.node.now c.loop.self.own.now c.write_once.new.self.own.now c.in-Whole.is (c.write_once.ensures.wrote c.args.link c.loop.invariant.has)).2

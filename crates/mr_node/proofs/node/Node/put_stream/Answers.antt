@@ -8,15 +8,15 @@ use Rattle.mr_node_spec.specs.ClientRows.{IsAnswerToPsync}
 use Rattle.mr_node.proofs.Results.{on_ok_both, on_ok_map}
 use Rattle.mr_node.proofs.node.Node.put_stream.Goals as goal
 
-pub returns-in-Continue : goal.returns-in-Continue
-returns-in-Continue c =
+pub returns-in-Continue-clause-offers : goal.returns-in-Continue-clause-offers
+returns-in-Continue-clause-offers c =
     let stands : c.standing.result ≡ standing_of c.args.self.now.core.lineage = c.standing.ensures ∙ ap (λ (a : LineageState). standing_of a) (c.lineage.ensures ∙ ap (λ (s : NodeState). s.core.lineage) c.self.view_is) in
     let may = subst (λ (s : Standing). MayContinue s c.args.id.now c.in-Continue.from) stands c.in-Continue.ensures.1 in
     let wanted : c.args.wanted ≡ pos c.in-Continue.from = sym (to_z-of_z w64 c.args.wanted c.ranges.wanted) ∙ c.in-Continue.ensures.0 in
     on_ok_map c.put_tail.result _ _ c.put_tail.ensures (λ is. record { text = _; answer = IsAnswerToPsync.continues c.in-Continue.from wanted may refl; outs_are = is })
 
-pub returns-in-Full : goal.returns-in-Full
-returns-in-Full c =
+pub returns-in-Full-clause-offers : goal.returns-in-Full-clause-offers
+returns-in-Full-clause-offers c =
     let stands : c.standing.result ≡ standing_of c.args.self.now.core.lineage = c.standing.ensures ∙ ap (λ (a : LineageState). standing_of a) (c.lineage.ensures ∙ ap (λ (s : NodeState). s.core.lineage) c.self.view_is) in
     let never : (from : ℕ) → c.args.wanted ≡ pos from → MayContinue (standing_of c.args.self.now.core.lineage) c.args.id.now from → ⊥ =
     λ from is may. c.in-Full.ensures from (to_z-of_z w64 c.args.wanted c.ranges.wanted ∙ is) (subst (λ (s : Standing). MayContinue s c.args.id.now from) (sym stands) may) in

@@ -1,4 +1,4 @@
-use Rattle.std.proofs.Common.{◌≡◌, FitsSigned, ℕ, ℤ, List, ap, of_z, refl, rules, Some, subst, sym, to_z, w64, ◌∙◌}
+use Rattle.std.proofs.Common.{◌≡◌, FitsSigned, ℕ, ℤ, List, ap, of_z, rules, Some, subst, sym, to_z, w64, ◌∙◌}
 use Rattle.std.proofs.lemmas.Int.{to_z-of_z}
 use Rattle.mr_node_links.specs.Parts.{TurnsAt}
 use Rattle.mr_node_output.specs.Outs.{OutsState, no_outs}
@@ -11,19 +11,19 @@ use Rattle.mr_node.proofs.Rows.{lacks_words}
 use Rattle.mr_node.proofs.node.Node.synchronize.Goals as goal
 
 pub returns-then-is_err : goal.returns-then-is_err
-returns-then-is_err c = λ u given fresh at w. (lacks_words u c.args.used w.words w.reads, refl)
+returns-then-is_err c = λ u given fresh at w. (lacks_words u c.args.used w.words w.reads, c.put_stream.ensures.same)
 
 pub returns-then-is_err-2 : goal.returns-then-is_err-2
 returns-then-is_err-2 c = λ u given fresh at w. (
   lacks_words u c.args.used w.words w.reads,
-  on_err_is c.stream_to.result _ (sym c.is_err-2.ensures.value ∙ c.if-is_err-2.true) c.stream_to.ensures.err ∙ c.self.view_is,
+  on_err_is c.stream_to.result _ (sym c.is_err-2.ensures.value ∙ c.if-is_err-2.true) c.stream_to.ensures.err ∙ (c.self.view_is ∙ c.put_stream.ensures.same),
 )
 
 pub returns : goal.returns
 returns c = λ u given fresh at w.
     let a = c.args.self.now in let b = c.stream_to.new.self in let l = c.args.link in
-    let here = c.self.view_is in
-    let offers = on_ok_is c.put_stream.result _ (sym c.is_err.ensures.value ∙ c.if-is_err.false) c.put_stream.ensures in
+    let here = c.self.view_is ∙ c.put_stream.ensures.same in
+    let offers = on_ok_is c.put_stream.result _ (sym c.is_err.ensures.value ∙ c.if-is_err.false) c.put_stream.ensures.offers in
     let turns = subst (λ (s : NodeState). TurnsAt s.ends l c.args.used b.ends) here (on_ok_is c.stream_to.result _ (sym c.is_err-2.ensures.value ∙ c.if-is_err-2.false) c.stream_to.ensures.ok) in
     let only = subst (λ (s : NodeState). OnlyEnds s b) here c.stream_to.ensures.only in
     let wish = c.args.wish.now in

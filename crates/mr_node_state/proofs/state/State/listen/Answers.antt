@@ -21,26 +21,26 @@ pub invariant_of-self-in-Ok : goal.invariant_of-self-in-Ok
 invariant_of-self-in-Ok c =
     let i = c.self.inside in
     let l = c.in-Ok.ensures in
-    subst (λ (z : Links EndState). IsNode (node_of i.up i.port i.upstream i.mark c.listen.new.self c.listen.new.held z))
+    subst (λ (z : Links EndState). IsNode (node_of i.up i.port i.upstream i.mark c.listen.new.course c.listen.new.self z))
     (sym (c.settle.ensures ∙ ap (λ (n : LinkId). ends_behind c.in-Ok.step n i.ends) (same_name i.course c.in-Some.name l.name l.follow (sym c.name.ensures.value ∙ c.in-Some.is) l.found)))
-    (listened_node i.up i.port i.upstream i.mark i.course c.listen.new.self i.held c.listen.new.held i.ends c.listen.new.out.items (Ok c.in-Ok.step) c.self.invariant c.name.ensures.course l)
+    (listened_node i.up i.port i.upstream i.mark i.course c.listen.new.course i.held c.listen.new.self i.ends c.listen.new.out.items (Ok c.in-Ok.step) c.self.invariant c.name.ensures.course l)
 
 pub returns-in-Err-Memory : goal.returns-in-Err-Memory
 returns-in-Err-Memory c =
     let i = c.self.inside in
-    let l = subst (λ (r : Result UpstreamStep UpstreamFault). Listens i.course i.held r c.listen.new.self c.listen.new.held c.listen.new.out.items) (c.in-Err-Memory.is ∙ ap Err c.in-Err-Memory.field-0-is) c.listen.ensures in
-    heard_of i.up i.port i.upstream i.mark i.course c.listen.new.self i.held c.listen.new.held i.ends c.listen.new.out.items _ c.args.self.now c.self.view_is l
+    let l = subst (λ (r : Result UpstreamStep UpstreamFault). Listens i.course i.held r c.listen.new.course c.listen.new.self c.listen.new.out.items) (c.in-Err-Memory.is ∙ ap Err c.in-Err-Memory.field-0-is) c.listen.ensures in
+    heard_of i.up i.port i.upstream i.mark i.course c.listen.new.course i.held c.listen.new.self i.ends c.listen.new.out.items _ c.args.self.now c.self.view_is l
 
 pub returns-in-Err-Stopped : goal.returns-in-Err-Stopped
 returns-in-Err-Stopped c =
     let i = c.self.inside in
-    let l = subst (λ (r : Result UpstreamStep UpstreamFault). Listens i.course i.held r c.listen.new.self c.listen.new.held c.listen.new.out.items) (c.in-Err-Stopped.is ∙ ap Err c.in-Err-Stopped.field-0-is) c.listen.ensures in
-    heard_of i.up i.port i.upstream i.mark i.course c.listen.new.self i.held c.listen.new.held i.ends c.listen.new.out.items _ c.args.self.now c.self.view_is l
+    let l = subst (λ (r : Result UpstreamStep UpstreamFault). Listens i.course i.held r c.listen.new.course c.listen.new.self c.listen.new.out.items) (c.in-Err-Stopped.is ∙ ap Err c.in-Err-Stopped.field-0-is) c.listen.ensures in
+    heard_of i.up i.port i.upstream i.mark i.course c.listen.new.course i.held c.listen.new.self i.ends c.listen.new.out.items _ c.args.self.now c.self.view_is l
 
 pub returns-in-Ok : goal.returns-in-Ok
 returns-in-Ok c =
     let i = c.self.inside in
     let l = c.in-Ok.ensures in
-    subst (λ (z : Links EndState). Heard c.args.self.now (Ok c.in-Ok.step) (node_of i.up i.port i.upstream i.mark c.listen.new.self c.listen.new.held z) c.listen.new.out.items)
+    subst (λ (z : Links EndState). Heard c.args.self.now (Ok c.in-Ok.step) (node_of i.up i.port i.upstream i.mark c.listen.new.course c.listen.new.self z) c.listen.new.out.items)
     (sym (c.settle.ensures ∙ ap (λ (n : LinkId). ends_behind c.in-Ok.step n i.ends) (same_name i.course c.in-Some.name l.name l.follow (sym c.name.ensures.value ∙ c.in-Some.is) l.found)))
-    (heard_of i.up i.port i.upstream i.mark i.course c.listen.new.self i.held c.listen.new.held i.ends c.listen.new.out.items (Ok c.in-Ok.step) c.args.self.now c.self.view_is l)
+    (heard_of i.up i.port i.upstream i.mark i.course c.listen.new.course i.held c.listen.new.self i.ends c.listen.new.out.items (Ok c.in-Ok.step) c.args.self.now c.self.view_is l)
