@@ -26,11 +26,11 @@ class Refusal(Exception):
 
 class End:
     """A link's end: the node there and its name for the end, or None twice for a client; what was sent from here, and how many of the other end's bytes were
-    taken here, and how many of these used."""
+    taken here, and how many of these used. It may wait for a node to open it."""
 
-    def __init__(self, node, name):
-        self.node, self.name = node, name
-        self.sent, self.taken, self.used, self.is_open = b"", 0, 0, True
+    def __init__(self, node, name, waits=False):
+        self.node, self.name, self.waits = node, name, waits
+        self.sent, self.taken, self.used, self.is_open = b"", 0, 0, not waits
 
 
 class Place:
@@ -163,6 +163,27 @@ class World:
         self.carry_out(node, outs)
         return link
 
+    def connect(self, node):
+        """The number of the new link, which waits for a node to accept it, or None where the node is stopped."""
+        place = self.place(node)
+        if not place.node.waits():
+            raise Refusal(NOWHERE)
+        if place.node.is_stopped:
+            return None
+        name, outs = place.node.dial()
+        link = self.joined(End(node, name), End(None, None, waits=True))
+        self.carry_out(node, outs)
+        return link
+
+    def accept(self, link, node):
+        """A link that waits is served by this node from now on, whatever became of the one that dialled."""
+        if link >= len(self.links) or not self.links[link][OTHER].waits:
+            raise Refusal(NOWHERE)
+        place = self.place(node)
+        if not place.node.is_stopped:
+            end = self.links[link][OTHER]
+            end.node, end.name, end.waits, end.is_open = node, place.node.open(), False, True
+
     def restart(self, node, kept, id):
         if self.is_drawn(id):
             raise Refusal(DRAWN)
@@ -288,6 +309,10 @@ def plays_dial(world, node, to):
     return numbered(b"link", world.dial(node, to))
 
 
+def plays_connect(world, node):
+    return numbered(b"link", world.connect(node))
+
+
 def plays_send(world, link, *words):
     world.command(link, request(*words))
 
@@ -329,6 +354,8 @@ EVENTS = {
     b"tick": Words(lambda world, node, now: world.tick(node, Given(now)), (count_of, now_of)),
     b"break": Words(World.break_end, (count_of, side_of)),
     b"dial": Words(plays_dial, (count_of, count_of)),
+    b"connect": Words(plays_connect, (count_of,)),
+    b"accept": Words(World.accept, (count_of, count_of)),
     b"restart": Words(plays_restart, (count_of, count_of, digits_of)),
     b"show": Words(plays_show, (count_of,)),
     b"got": Words(plays_got, (count_of,)),

@@ -1,8 +1,8 @@
 """Random scripts of a world: for each seed the same lines, chosen by what a model of the world shows at that point.
 
 `script(seed, count)` has the lines and what they are to be answered. They are made of starts, clients, requests, transactions, deliveries in any pieces, steps, ticks of
-clocks that differ and go back, dials, breaks, restarts with a beginning of the file, promotions on both sides of a split, returns, and events that are refused. Some
-seeds have effects of one size alone, so that offsets of different histories meet."""
+clocks that differ and go back, dials, links that are accepted late or never, breaks, restarts with a beginning of the file, promotions on both sides of a split,
+returns, and events that are refused. Some seeds have effects of one size alone, so that offsets of different histories meet."""
 
 import itertools
 import random
@@ -17,6 +17,7 @@ FEW = b"123456789abcdef"
 FALSE_IDS = (b"f" * 40, b"A" * 40, b"?", b"0" * 40)
 ODD_LINES = (b"", b" \t", b"start", b"start A", b"start ab", b"client -1", b"client 00", b"client +0", b"show 18446744073709551616", b"STEP 0 b 0 0 1", b"step 0 B 0 0 1")
 ODD_LINES += (b"step 0 b 2305843009213693953 0 1", b"deliver 0 b", b"raw 0 a b", b'raw 0 "a', b"*1", b"send 0", b"send 0 'a'b", b"show 0 0", b"got x", b"tick 0 -1", b'show "0"')
+ODD_LINES += (b"connect", b"connect 0 1", b"accept 0", b"accept 0 0 0")
 # texts that a client sends in pieces, or that no request begins with
 RAW = (b"GET k\r\n", b"\r\n", b"*0\r\n", b"*-1\r\n", b"*2\r\n$3\r\nGET\r\n$1\r\nk\r\n", b"*2\r\n$3\r\nGE", b"T\r\n$1\r\nk\r\n", b"*1\r\n$4\r\nROLE\r\n", b"set k 'a\\'b'\n")
 PIECES = (b"ECHO ", b'"', b"'", b"\\", b"\\x4", b"41", b"\n", b"\r", b"\r\n", b" ", b"\t", b"\x0b", b"\0", b"x", b"*", b"$", b"1", b"0", b"-", b"*2\r\n$4\r\nECHO\r\n$1\r\n", b"GET k")
@@ -244,6 +245,18 @@ class Scripter:
         if waiting:
             yield b"dial %d %d" % (self.random.choice(waiting), self.random.choice(self.nodes()))
 
+    def connects(self):
+        """A replica's link, which may wait for long, while the replica goes on."""
+        waiting = [node for node in self.nodes("connect")]
+        if waiting:
+            yield b"connect %d" % self.random.choice(waiting)
+
+    def accepts(self):
+        """A link that waits is accepted by any node: the one that dialled may have left it or begun anew, or be the same."""
+        waiting = [link for link, ends in enumerate(self.world.links) if ends[OTHER].waits]
+        if waiting:
+            yield b"accept %d %d" % (self.random.choice(waiting[-3:]), self.random.choice(self.nodes()))
+
     def heals(self):
         """A replica is joined to a master once more, or anew, and mostly comes up to it."""
         replica = self.any_of(self.nodes("connect", "sync", "connected"))
@@ -255,8 +268,21 @@ class Scripter:
     def joined(self, replica, master):
         for link, side in self.ends(lambda end, other: end.node == replica and self.of_node(end).kind == MASTER):
             yield b"break %d %c" % (link, SIDES[side])
-        yield b"dial %d %d" % (replica, master)
-        yield from self.pumped(len(self.world.links) - 1, self.random.randint(3, 8))
+        link = len(self.world.links)
+        if self.chance(0.7):
+            yield b"dial %d %d" % (replica, master)
+        else:
+            yield b"connect %d" % replica
+            if self.chance(0.5):
+                # a link that comes between has the first name at the master
+                yield b"client %d" % master
+            if self.chance(0.2):
+                yield from self.random.choice([self.breaks, self.restarts, self.promotes, self.beats])()
+            if self.chance(0.1):
+                return
+            yield b"accept %d %d" % (link, master)
+        if link < len(self.world.links):
+            yield from self.pumped(link, self.random.randint(3, 8))
 
     def breaks(self):
         wanted = self.random.choice([CLIENT, REPLICA, MASTER, None])
@@ -309,6 +335,8 @@ class Scripter:
             b"step %d %c 0 0 %s" % (link, self.random.choice(SIDES), self.random.choice([self.id(), b"0", b"a"])),
             b"break %d %c" % (link, self.random.choice(SIDES) if self.chance(0.3) else ord("a")),
             b"dial %d %d" % (node, self.random.randint(0, nodes)),
+            b"connect %d" % node,
+            b"accept %d %d" % (link, self.random.randint(0, nodes)),
             b"tick %d 0" % node,
             b"client %d" % (nodes + 1),
             b"send %d PING" % link,
@@ -417,6 +445,8 @@ WEIGHTS = {
     Scripter.outlives: 0.7,
     Scripter.poses: 1,
     Scripter.dials: 2,
+    Scripter.connects: 1,
+    Scripter.accepts: 1,
     Scripter.heals: 5,
     Scripter.breaks: 1.5,
     Scripter.restarts: 0.5,

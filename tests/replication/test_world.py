@@ -7,6 +7,7 @@ import unittest
 
 from tests.models.world import World, answer
 from tests.models.world_scripts import script
+from tests.support.accept_rows import AcceptRows
 from tests.support.program import LATE, LAUNCHER, PROGRAM, USUAL_BACKLOG, run, run_in_pieces
 from tests.support.refusing import Refusing
 from tests.support.world_rows import Rows, every_event, shown
@@ -32,7 +33,7 @@ def lines_of_every_event():
     return [line.encode() for line, _ in every_event().rows]
 
 
-class WorldRows(Rows, unittest.TestCase):
+class WorldRows(Rows, AcceptRows, unittest.TestCase):
     def answers_to(self, script, backlog):
         ran = run(script.encode(), "world", "--backlog", str(backlog))
         self.assertEqual((ran.returncode, ran.stderr), (0, b""))

@@ -13,6 +13,7 @@ from tests.models.node import CLOSED, IDLE, LIMIT, Append, Close, Grow, Halt, No
 from tests.models.world import World, answer, answers
 from tests.models.world_scripts import Scripter, script, shortened
 from tests.models.world_watch import EVENTS_OF_A_WORLD, watched
+from tests.support.accept_rows import AcceptRows
 from tests.support.handshake import ANSWERS
 from tests.support.program import LATE, ROOT, USUAL_BACKLOG, request
 from tests.support.replies import OK, QUEUED, array_of, bulk
@@ -24,7 +25,7 @@ FRESH = b"1" * 40
 NOW = Given(0, 0)
 
 
-class WorldRows(Rows, unittest.TestCase):
+class WorldRows(Rows, AcceptRows, unittest.TestCase):
     def answers_to(self, script, backlog):
         return [it.decode() for it in answers(script.encode(), backlog)]
 
@@ -335,6 +336,21 @@ class Refusals(unittest.TestCase):
         self.assertEqual((answer(world, b"restart 0 27 c"), answer(world, b"show 0"), answer(world, b"client 0")), (b"ok", b"0 " + b"c" * 40 + b" 0", b"link 2"))
 
 
+    def test_a_stopped_node_neither_connects_nor_accepts(self):
+        """The link waits on, and is accepted once the node has begun anew."""
+        world = World()
+        for line in (b"start a", b"replica b", b"replica c", b"connect 1"):
+            answer(world, line)
+        for node in (0, 2):
+            world.node(node).file_failed()
+        before = pickle.dumps(world)
+        for line in (b"accept 0 0", b"accept 0 2", b"connect 2"):
+            self.assertEqual((line, answer(world, line)), (line, b"ok"))
+        self.assertEqual(pickle.dumps(world), before)
+        for line, wanted in ((b"connect 0", b"refused 2"), (b"restart 0 0 d", b"ok"), (b"accept 0 0", b"ok"), (b"deliver 0 b 14", b"ok"), (b"accept 0 2", b"refused 2")):
+            self.assertEqual((line, answer(world, line)), (line, wanted))
+
+
 class Files(unittest.TestCase):
     def test_any_bytes_are_loaded(self):
         world = World()
@@ -359,7 +375,7 @@ class RandomWorlds(unittest.TestCase):
         seen = watched(0, EVENTS_OF_A_WORLD)
         for seed in range(1, 10):
             seen += watched(seed, EVENTS_OF_A_WORLD)
-        for what, least in (("caught up", 1000), ("branches", 20), ("larger groups", 50), ("refused 1", 20), ("refused 2", 20), ("refused 3", 5), ("restart", 10), ("corrupted file", 20)):
+        for what, least in (("caught up", 1000), ("branches", 20), ("larger groups", 50), ("refused 1", 20), ("refused 2", 20), ("refused 3", 5), ("connect", 50), ("accept", 50), ("restart", 10), ("corrupted file", 20)):
             self.assertGreater(seen[what], least, what)
 
     def test_a_seed_has_its_script(self):
@@ -371,7 +387,7 @@ class RandomWorlds(unittest.TestCase):
 
     def test_a_script_is_shortened(self):
         """To what it takes of it to have a node show an id and offset."""
-        lines = [line.encode() for line, _ in started().rows] + script(1, 400).script.split(b"\n")[:-1]
+        lines = [line.encode() for line, _ in started().rows] + script(4, 400).script.split(b"\n")[:-1]
         wanted = b"0 " + b"a" * 40 + b" 27"
 
         def shows(rest):

@@ -112,9 +112,17 @@ class Script:
             self.step(link, "a")
         self.deliver(link, "b", last)
 
+    def connects(self, node):
+        """A replica's link, which waits for a node to accept it."""
+        self.line("connect %d" % node, "link %d" % self.links)
+        return self.joined()
+
     def synchronizes(self, node, to, last=SAID[3], answer=HEARD[3], steps=2):
         """A replica dials a node, and both go on to the end of the answer of that many bytes."""
-        link = self.dials(node, to)
+        return self.copies(self.dials(node, to), last, answer, steps)
+
+    def copies(self, link, last=SAID[3], answer=HEARD[3], steps=2):
+        """The same on a link that a node serves already."""
         self.greets(link, last)
         self.step(link, "b")
         self.deliver(link, "a", answer)
@@ -203,6 +211,12 @@ def every_event():
     script.line("restart 2 1000 c")
     script.shows(2, "c", 0)
     script.asks(script.client(2), "GET k", bulk("w"))
+    link = script.connects(2)
+    script.line("accept %d 1" % link)
+    script.deliver(link, "b", SAID[0])
+    script.step(link, "b")
+    script.deliver(link, "a", HEARD[0])
+    script.step(link, "a")
     script.lines("""
         start b -> refused 1
         client 3 -> refused 2

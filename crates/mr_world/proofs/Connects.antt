@@ -1,4 +1,4 @@
--- A node that dials another, or itself: that what is true of each World stays.
+-- A node that dials another, or itself, at once or in two events: that what is true of each World stays.
 use Rattle.std.proofs.Common.{◌≡◌, ◌≢◌, ◌++◌, ◌∷◌, [], ℕ, cond, false, true, Option, None, Some, Result, Ok, Err, length, refl, sym, ap, subst, ◌∙◌, arith}
 use Rattle.std.specs.Prelude.{slice_set}
 use Rattle.std.specs.FinMap.{get, get-insert}
@@ -18,11 +18,13 @@ use Rattle.law_refinement.specs.Worlds.{IsWorld, HasMaster, end_for}
 use Rattle.law_refinement.specs.Carrying.{connected, dialled_link, put_node}
 use Rattle.law_refinement.proofs.Places.{push_here, set_here, some_is}
 use Rattle.law_refinement.proofs.Others.{served_end}
+use Rattle.law_refinement.proofs.Accepting.{accepts_keep, connects_keep}
 use Rattle.mr_world.specs.declared.refusal.Refusal.{Refusal}
 use Rattle.mr_world.specs.declared.refusal.Refusal.TheVariants as refusal
+use Rattle.mr_world.specs.Accepting.{AcceptCall, Accepted, ConnectCall, Connected}
 use Rattle.mr_world.specs.Connecting.{Connects, DialCall, Dialled}
 use Rattle.mr_world.proofs.Changing.{node_world, link_comes}
-use Rattle.mr_world.proofs.Kept.{apart, between, stops_world}
+use Rattle.mr_world.proofs.Kept.{apart, between, sound_is, stops_world}
 
 no_some : {A : Type 0} (x : A) → ◌≡◌ {A = Option A} None (Some x) → ⊥
 no_some x e = cc
@@ -86,7 +88,7 @@ module _ (w : WorldState) (n m : ℕ) (v : WorldState) (is : IsWorld w) (d : Con
 pub dial_keeps : (w v : WorldState) (n m : ℕ) (r : Result (Unit {0}) Refusal) → IsWorld w → DialCall w n m v r → IsWorld v
 dial_keeps w v n m (Ok done) is c = elim c.1 [
   | Dialled.connects d ↦ subst (λ (z : WorldState). IsWorld z) (sym d.is) (connects_world w n m v is d)
-  | Dialled.server_stops b d ↦ subst (λ (z : WorldState). IsWorld z) (sym d.is) (stops_world w m d.server (stopped_as d.server.node) is d.running.at refl)
+  | Dialled.server_stops b d ↦ subst (λ (z : WorldState). IsWorld z) (sym d.is) (stops_world w m d.slot (stopped_as d.slot.node) is d.running.at refl)
   | Dialled.dialler_stops b d ↦ subst (λ (z : WorldState). IsWorld z) (sym d.is) (stops_world w n d.dialler (stopped_as d.dialler.node) is d.dialling.at refl)
   | Dialled.dialler_rests d e ↦ subst (λ (z : WorldState). IsWorld z) (sym e) is
   | Dialled.server_rests d e ↦ subst (λ (z : WorldState). IsWorld z) (sym e) is
@@ -96,3 +98,29 @@ dial_keeps w v n m (Err refusal.Nobody) is c = subst (λ (z : WorldState). IsWor
 dial_keeps w v n m (Err refusal.Drawn) is c = absurd c
 dial_keeps w v n m (Err refusal.TooMuch) is c = absurd c
 dial_keeps w v n m (Err refusal.InputFull) is c = absurd c
+
+-- ---- in two events
+pub connect_keeps : (w v : WorldState) (n : ℕ) (r : Result (Unit {0}) Refusal) → IsWorld w → ConnectCall w n v r → IsWorld v
+connect_keeps w v n (Ok done) is c = elim c.1 [
+  | Connected.opens d ↦ subst (λ (z : WorldState). IsWorld z) (sym d.is) (connects_keep w n d.slot d.name d.node d.outs is d.running d.sound d.dials)
+  | Connected.stops d ↦ subst (λ (z : WorldState). IsWorld z) (sym d.is) (stops_world w n d.slot (stopped_as d.slot.node) is d.running.at refl)
+  | Connected.rests d e ↦ subst (λ (z : WorldState). IsWorld z) (sym e) is
+]
+connect_keeps w v n (Err refusal.Nobody) is c = subst (λ (z : WorldState). IsWorld z) (sym c.1) is
+connect_keeps w v n (Err refusal.Memory) is c = subst (λ (z : WorldState). IsWorld z) (sym c.2) is
+connect_keeps w v n (Err refusal.Drawn) is c = absurd c
+connect_keeps w v n (Err refusal.TooMuch) is c = absurd c
+connect_keeps w v n (Err refusal.InputFull) is c = absurd c
+
+pub accept_keeps : (w v : WorldState) (l m : ℕ) (r : Result (Unit {0}) Refusal) → IsWorld w → AcceptCall w l m v r → IsWorld v
+accept_keeps w v l m (Ok done) is c = elim c.1 [
+  | Accepted.accepts d ↦ subst (λ (z : WorldState). IsWorld z) (sym d.is)
+      (accepts_keep w l m d.link d.slot d.at d.node is d.waiting d.running (sound_is w m d.slot d.at d.node is d.running.at d.running.up d.opens) d.opens)
+  | Accepted.stops d ↦ subst (λ (z : WorldState). IsWorld z) (sym d.is) (stops_world w m d.slot (stopped_as d.slot.node) is d.running.at refl)
+  | Accepted.rests d e ↦ subst (λ (z : WorldState). IsWorld z) (sym e) is
+]
+accept_keeps w v l m (Err refusal.Nobody) is c = subst (λ (z : WorldState). IsWorld z) (sym c.1) is
+accept_keeps w v l m (Err refusal.Memory) is c = subst (λ (z : WorldState). IsWorld z) (sym c.2) is
+accept_keeps w v l m (Err refusal.Drawn) is c = absurd c
+accept_keeps w v l m (Err refusal.TooMuch) is c = absurd c
+accept_keeps w v l m (Err refusal.InputFull) is c = absurd c

@@ -17,7 +17,7 @@ use Rattle.mr_world.specs.Running.{AreMoments, EventCall, RunCall, TookAll, by_o
 use Rattle.mr_world.specs.Promises.{Ran, FilesAreDatasets, IsFiled, OnlyGrows, moments_of, run_moments}
 use Rattle.mr_world.proofs.Filed.{no_file, start_files, client_files, command_files, take_files, leave_files, break_files, deliver_files, listen_files, drop_files, tick_files}
 use Rattle.mr_world.proofs.FiledSteps.{step_files, follow_files, lacked_files, restart_files}
-use Rattle.mr_world.proofs.DialFiles.{dial_files}
+use Rattle.mr_world.proofs.DialFiles.{accept_files, connect_files, dial_files}
 use Rattle.mr_world.proofs.Unchanged.{Stays, no_event, stays}
 
 -- ---- one event
@@ -38,6 +38,8 @@ module _ (w v : WorldState) where
   filed (event.Break l side.Server) world c = break_files w v l c
   filed (event.Break l side.Opener) world c = by_end (is_between_nodes (slice_get w.links l)) _ _ (drop_files w v l) (leave_files w v l) c
   filed (event.Dial n m) world c = dial_files w n m v c
+  filed (event.Connect n) world c = connect_files w n v c
+  filed (event.Accept l m) world c = accept_files w l m v c
   filed (event.Restart n kept id config) world c = restart_files w v n kept.items id config.port config.backlog c
 
   -- .. one that was refused

@@ -28,7 +28,7 @@ use Rattle.mr_world.specs.Hearing.{ListenCall, Tells}
 use Rattle.mr_world.specs.Stepping.{TickCall, Ticks}
 use Rattle.mr_world.specs.Serving.{StepCall}
 use Rattle.mr_world.specs.Restarting.{RestartCall}
-use Rattle.mr_world.proofs.Connected.{dialled_is_event}
+use Rattle.mr_world.proofs.Connected.{accepted_is_event, connected_is_event, dialled_is_event}
 use Rattle.mr_world.specs.Following.{FollowCall}
 use Rattle.mr_world.proofs.Happening.{follows_happen}
 use Rattle.mr_world.proofs.ServedEvents.{step_is_event}
@@ -131,6 +131,8 @@ module _ (w v : WorldState) where
   happened (event.Step l side.Opener given fresh) done c = followed_there l given fresh done c
   happened (event.Tick n given) done c = ticked n given done c
   happened (event.Dial n m) done c = an_event (events.Event.Dial n m) (λ book holds. dialled_is_event w book n m holds v c.0 c.1)
+  happened (event.Connect n) done c = an_event (events.Event.Connect n) (λ book holds. connected_is_event w book holds n v c.0 c.1)
+  happened (event.Accept l m) done c = an_event (events.Event.Accept l m) (λ book holds. accepted_is_event w book holds l m v c.0 c.1)
   happened (event.Restart n kept id config) done c = restarted n kept.items id config.port config.backlog done c
   happened (event.Break l side.Server) done c = broke l done c
   happened (event.Break l side.Opener) done c = by_end (is_between_nodes (slice_get w.links l)) _ _ (dropped l done) (left l done) c

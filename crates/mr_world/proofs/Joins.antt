@@ -1,5 +1,5 @@
 -- How the parts of an event make it.
-use Rattle.std.proofs.Common.{◌≡◌, ◌+◌, ◌<◌, ◌≤◌, ℕ, List, [], ◌∷◌, ◌++◌, Bool, true, false, Some, length, get_or, refl, sym, ap, subst, ◌∙◌}
+use Rattle.std.proofs.Common.{◌≡◌, ◌⊎◌, inl, inr, ◌+◌, ◌<◌, ◌≤◌, ℕ, List, [], ◌∷◌, ◌++◌, Bool, true, false, Some, length, get_or, refl, sym, ap, subst, ◌∙◌}
 use Rattle.std.specs.Prelude.{slice_get, slice_set}
 use Rattle.std.proofs.lemmas.List.{set-get_or}
 use Rattle.mr_links.specs.declared.link_id.LinkId.{LinkId}
@@ -14,7 +14,7 @@ use Rattle.law_refinement.specs.Events.{IsRunning}
 use Rattle.law_refinement.proofs.Places.{is_within, some_is}
 use Rattle.mr_world_parts.specs.AtLink.{IsAsking}
 use Rattle.mr_world_parts.proofs.Places.{stands}
-use Rattle.mr_world.specs.Calls.{Breaks, Clients, Runs, AsksAt, NoneAsks, Sends, Takes, WereNotSent, Leaves, put_link}
+use Rattle.mr_world.specs.Calls.{Breaks, Clients, IsDown, Runs, StopsForLinks, AsksAt, NoneAsks, Sends, Takes, WereNotSent, Leaves, put_link}
 
 pub put_same : {A : Type 0} (xs : List A) (i : ℕ) (x t : A) → x ≡ get_or xs i x → t ≡ x → slice_set xs i t ≡ xs
 put_same xs i x t r e = ap (λ z. slice_set xs i z) (e ∙ r) ∙ set-get_or xs i x
@@ -27,7 +27,7 @@ module _ (w : WorldState) (n : ℕ) (x : Slot) (within : n < length w.slots) (sl
   pub rests_here : x.node.core.up ≡ false → Clients w n w
   rests_here down = Clients.rests (record { slot = x; at = stands w.slots n x within slot; down = down }) refl
 
-  running : x.node.core.up ≡ true → IsRunning w n x
+  pub running : x.node.core.up ≡ true → IsRunning w n x
   running up = record { at = stands w.slots n x within slot; up = up }
 
   pub runs_here : x.node.core.up ≡ true → Runs w n
@@ -48,15 +48,23 @@ module _ (w : WorldState) (n : ℕ) (x : Slot) (within : n < length w.slots) (sl
   pub same_slots : (t : Slot) (links : List Link) → t.node ≡ x.node → t ≡ record x { node = t.node } → links ≡ w.links → ◌≡◌ {A = WorldState} (record w { slots = slice_set w.slots n t; links = links }) w
   same_slots t links e rest ls = ap (λ (z : List Link). record w { slots = slice_set w.slots n t; links = z }) ls ∙ ap (λ (z : List Slot). record w { slots = z }) (put_same w.slots n x t slot (node_is x t rest x.node e))
 
-  pub stops_here : (t : Slot) (links : List Link) → OpensNoMore x.node t.node → t ≡ record x { node = t.node } → links ≡ w.links → Clients w n (record w { slots = slice_set w.slots n t; links = links })
-  stops_here t links o rest ls = elim o [
-    | OpensNoMore.down d e ↦ Clients.rests (record { slot = x; at = stands w.slots n x within slot; down = d }) (same_slots t links e rest ls)
-    | OpensNoMore.spent up far e ↦ Clients.stops (record {
+  -- it has opened as many links as it may, or is stopped
+  pub opens_none : (t : Slot) (links : List Link) → OpensNoMore x.node t.node → t ≡ record x { node = t.node } → links ≡ w.links
+      → StopsForLinks w n (record w { slots = slice_set w.slots n t; links = links }) ⊎ (IsDown w n × ◌≡◌ {A = WorldState} (record w { slots = slice_set w.slots n t; links = links }) w)
+  opens_none t links o rest ls = elim o [
+    | OpensNoMore.down d e ↦ inr (record { slot = x; at = stands w.slots n x within slot; down = d }, same_slots t links e rest ls)
+    | OpensNoMore.spent up far e ↦ inl (record {
       slot = x;
       running = running up;
       spent = far;
       is = ap (λ (z : List Link). record w { slots = slice_set w.slots n t; links = z }) ls ∙ ap (λ (z : Slot). record w { slots = slice_set w.slots n z }) (node_is x t rest (stopped_as x.node) e);
     })
+  ]
+
+  pub stops_here : (t : Slot) (links : List Link) → OpensNoMore x.node t.node → t ≡ record x { node = t.node } → links ≡ w.links → Clients w n (record w { slots = slice_set w.slots n t; links = links })
+  stops_here t links o rest ls = elim (opens_none t links o rest ls) [
+    | inl d ↦ Clients.stops d
+    | inr p ↦ Clients.rests p.0 p.1
   ]
 
 -- ---- what a client sends

@@ -96,7 +96,7 @@ module _ (w : WorldState) (n : ℕ) (s : Slot) (name : LinkId) (b : NodeState) (
   pub apart : (j : ℕ) (y : Link) → slice_get w.links j ≡ Some y → y.serving ≡ true → y.to ≡ n → y.name ≡ name → ⊥
   apart j y e q to same = let served = served_end w is n s at up j y e to q in no_some (end_for y.streams served.0 (unread y.ask)) (sym o.fresh ∙ (ap (end_of s.node) (sym same) ∙ served.1))
 
-  sound_is : IsSound b
+  pub sound_is : IsSound b
   sound_is = subst IsSound (sym o.node) (let i = is.nodes n s at up in record { node = opened_node s.node name [] i.node o.fresh; window = i.window; id = i.id; second = i.second; upstream = i.upstream; reading = reads_on s.node (opened_as s.node.ends name (client [])) s.node.follow i.reading })
 
   pub between : IsWorld (put_node w n s b)
@@ -178,7 +178,7 @@ command_keeps w v l bytes (Ok done) is c =
       master = λ i name f e a. (e, a);
     }))
 command_keeps w v l bytes (Err refusal.Nobody) is c = subst (λ (z : WorldState). IsWorld z) (sym c.1) is
-command_keeps w v l bytes (Err refusal.Memory) is c = subst (λ (z : WorldState). IsWorld z) (sym c.1) is
+command_keeps w v l bytes (Err refusal.Memory) is c = subst (λ (z : WorldState). IsWorld z) (sym c.2) is
 command_keeps w v l bytes (Err refusal.Drawn) is c = absurd c
 command_keeps w v l bytes (Err refusal.TooMuch) is c = absurd c
 command_keeps w v l bytes (Err refusal.InputFull) is c = absurd c

@@ -22,6 +22,7 @@ pub mod Heard
 pub mod Happening
 pub mod Connects
 pub mod Meeting
+pub mod Opening
 mod Connected
 mod Talking
 mod Talked

@@ -107,7 +107,7 @@ module _ (w : WorldState) (n m : ℕ) (x y : Slot) (n_in : n < length w.slots) (
           runs : true ≡ false → ⊥
           runs q = cc
       server_stops_here t links (OpensNoMore.spent u far e) rest ls = Dialled.server_stops both (record {
-        server = y;
+        slot = y;
         running = running;
         spent = far;
         is = ap (λ (z : List Link). record w { slots = slice_set w.slots m t; links = z }) ls

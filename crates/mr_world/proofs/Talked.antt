@@ -25,9 +25,10 @@ use Rattle.mr_node_output.specs.Outs.{Output}
 use Rattle.law_refinement.specs.Way.{WayState, IsWay, taken_on, unread}
 use Rattle.law_refinement.specs.State.{a_client, Link, Slot, WorldState}
 use Rattle.law_refinement.specs.Worlds.{IsWorld, end_for}
-use Rattle.law_refinement.specs.Carrying.{reached, settled, shut_if, stepped, told}
+use Rattle.law_refinement.specs.Carrying.{accepted_by, reached, settled, shut_if, stepped, told}
 use Rattle.law_refinement.proofs.Places.{set_here, set_there, some_is}
 use Rattle.law_refinement.proofs.Open.{eqb_yes}
+use Rattle.law_refinement.proofs.Unaccepted.{served_not_waiting}
 use Rattle.mr_headline.specs.Runs.{last_of}
 use Rattle.mr_world_parts.specs.declared.side.Side.TheVariants as side
 use Rattle.mr_world.specs.declared.event.Event.{Event}
@@ -38,10 +39,11 @@ use Rattle.mr_world.specs.Hearing.{ListenCall, Tells}
 use Rattle.mr_world.specs.Stepping.{TickCall, Ticks}
 use Rattle.mr_world.specs.Serving.{HasServed, ServedRow, Serves}
 use Rattle.mr_world.specs.Following.{Follows}
+use Rattle.mr_world.specs.Accepting.{Accepted, Connected}
 use Rattle.mr_world.specs.Connecting.{Dialled}
 use Rattle.mr_world.specs.Running.{AreMoments, EventCall, TookAll, by_opener, is_between_nodes}
 use Rattle.mr_world.specs.Talking.{InOrder, LinksAreInOrder, Turn, TurnsUseTexts, all_said, all_used, turn_of, turns_by, turns_in, turns_of, used_at}
-use Rattle.mr_world.proofs.Talking.{Goes, Left, OnlyReplicas, There, all_changed, as_it_was, asked_more, goes_as, heard_more, join, one_changed, one_more, open_front, own, reached_goes, reached_there, said_there, shuts, stays, to_nobody, to_replicas}
+use Rattle.mr_world.proofs.Talking.{Goes, Left, OnlyReplicas, There, all_changed, as_it_was, asked_more, goes_as, heard_more, join, may_still, one_changed, one_more, open_front, may_serve, own, reached_goes, reached_there, said_there, shuts, stays, to_nobody, to_replicas}
 
 -- ---- what a row says of its link
 -- The end is open behind it, in this transaction or in none, and a text was used in front of what is left; or it is closed.
@@ -243,6 +245,18 @@ module _ (w v : WorldState) (is : IsWorld w) (l : ℕ) (k : Link) (found : slice
   dial_goes n m (Dialled.dialler_rests d e) = same (ap (λ (z : WorldState). z.links) e)
   dial_goes n m (Dialled.server_rests d e) = same (ap (λ (z : WorldState). z.links) e)
 
+  connect_goes : (n : ℕ) → Connected w n v → There v.links l k []
+  connect_goes n (Connected.opens d) = as_links _ [] d.is (one_more w.links _ l k found)
+  connect_goes n (Connected.stops d) = same (ap (λ (z : WorldState). z.links) d.is)
+  connect_goes n (Connected.rests d e) = same (ap (λ (z : WorldState). z.links) e)
+
+  -- what a link that waited has carried stays
+  accept_goes : (i m : ℕ) → Accepted w i m v → There v.links l k []
+  accept_goes i m (Accepted.accepts d) =
+      as_links _ [] d.is (one_changed w.links i l d.link _ k d.waiting.found found (goes_as d.link (accepted_by m d.at d.link) refl (λ e. refl) (λ q. may_still d.link d.waiting.waits) refl))
+  accept_goes i m (Accepted.stops d) = same (ap (λ (z : WorldState). z.links) d.is)
+  accept_goes i m (Accepted.rests d e) = same (ap (λ (z : WorldState). z.links) e)
+
   -- a step at the server's end of the link m, which is this one or another
   served_goes : (m : ℕ) (given : Given) (fresh : List ℕ) (t : HasServed w m given fresh) (here : Bool) → (m == l) ≡ here
       → There (stepped w t.link.to t.slot m t.link t.node t.outs).links l k (if here then turn_of w m given fresh t ∷ [] else [])
@@ -255,7 +269,7 @@ module _ (w v : WorldState) (is : IsWorld w) (l : ℕ) (k : Link) (found : slice
             ∙ set_here (map (reached t.link.to t.outs) w.links) m (settled (end_of t.node t.link.name) (told t.outs.reply t.link)) (reached t.link.to t.outs t.link)
             (slice_get-map (reached t.link.to t.outs) w.links m ∙ ap (option_map (reached t.link.to t.outs)) t.served.found);
         goes = subst (λ (z : Link). Goes z (settled (end_of t.node t.link.name) (told t.outs.reply t.link)) (turn_of w m given fresh t ∷ [])) this
-            (own (end_of t.node t.link.name) t.link t.outs.reply (is.asks m t.link t.served.found) t.served.serving (row_plain w m given fresh t)
+            (own (end_of t.node t.link.name) t.link t.outs.reply (is.asks m t.link t.served.found) t.served.serving (served_not_waiting w is m t.link t.served.found t.served.serving) (row_plain w m given fresh t)
             (left_there t.node t.link.name (unread t.link.ask) t.outs (row_leaves w m given fresh t)));
       }
   served_goes m given fresh t false e =
@@ -289,6 +303,8 @@ module _ (w v : WorldState) (is : IsWorld w) (l : ℕ) (k : Link) (found : slice
   goes_by (event.Break m side.Server) c = break_goes m c
   goes_by (event.Break m side.Opener) c = by_end (is_between_nodes (slice_get w.links m)) _ _ (drop_goes m) (leave_goes m) c
   goes_by (event.Dial n m) c = dial_goes n m c.1
+  goes_by (event.Connect n) c = connect_goes n c.1
+  goes_by (event.Accept i m) c = accept_goes i m c.1
   goes_by (event.Restart n kept id config) c = as_links _ [] c.1.is (all_changed (λ z. shut_if (z.to == n) z) w.links l k found (shuts (k.to == n) k))
 
 -- ---- in a run
@@ -312,5 +328,5 @@ links_are_in_order w es v is t l k m found later plain =
     let goes : Goes k m (turns_of l w es t.moments t.are) = subst (λ z. Goes k z (turns_of l w es t.moments t.are)) (some_is r.0.link m (sym there ∙ later)) r.0.goes in
     let way : IsWay m.ask = (subst IsWorld t.ends r.1).asks l m later in record {
       said = goes.said plain;
-      took = λ q. taken_front m.ask way ∙ (ap (λ z. z ++ unread m.ask) (goes.used plain q) ∙ append_assoc (take k.ask.used k.ask.sent) (all_used (turns_of l w es t.moments t.are)) (unread m.ask));
+      took = λ q. taken_front m.ask way ∙ (ap (λ z. z ++ unread m.ask) (goes.used plain (may_serve m q)) ∙ append_assoc (take k.ask.used k.ask.sent) (all_used (turns_of l w es t.moments t.are)) (unread m.ask));
     }

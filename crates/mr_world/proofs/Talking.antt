@@ -1,5 +1,5 @@
 -- What goes over a link that a node serves, in order: one link, from one moment to the next.
-use Rattle.std.proofs.Common.{zero, suc, ◌≡◌, ◌≢◌, ◌⊎◌, inl, inr, ◌+◌, ◌-◌, ◌≤◌, ◌==◌, ◌&&◌, ℕ, List, [], ◌∷◌, ◌++◌, Bool, true, false, Option, None, Some, length, length-append, map, take, drop, refl, sym, ap, subst, ◌∙◌, append-nil, append_assoc, arith}
+use Rattle.std.proofs.Common.{zero, suc, ◌≡◌, ◌≢◌, ◌⊎◌, inl, inr, ◌+◌, ◌-◌, ◌≤◌, ◌==◌, ◌&&◌, ◌||◌, ℕ, List, [], ◌∷◌, ◌++◌, Bool, true, false, Option, None, Some, length, length-append, map, take, drop, refl, sym, ap, subst, ◌∙◌, append-nil, append_assoc, arith}
 use Rattle.std.specs.Prelude.{slice_get, slice_set}
 use Rattle.std.specs.Option.{option_map}
 use Rattle.std.proofs.Math.Seq.{take-add}
@@ -31,11 +31,15 @@ used_join [] ys = refl
 used_join (x ∷ xs) ys = ap (λ z. x.used ++ z) (used_join xs ys) ∙ sym (append_assoc x.used (all_used xs) (all_used ys))
 
 -- ---- one link
+-- Its server's end is open, or may still be opened.
+abbrev pub MayServe : Link → Type 0
+MayServe k = (k.serving || k.waits) ≡ true
+
 pub record Goes (k m : Link) (ts : List Turn) : Type 0 where
   pub plain : m.streams ≡ false → k.streams ≡ false
   pub said : m.streams ≡ false → m.tell.sent ≡ k.tell.sent ++ all_said ts
-  pub serves : m.serving ≡ true → k.serving ≡ true
-  pub used : m.streams ≡ false → m.serving ≡ true → take m.ask.used m.ask.sent ≡ take k.ask.used k.ask.sent ++ all_used ts
+  pub serves : MayServe m → MayServe k
+  pub used : m.streams ≡ false → MayServe m → take m.ask.used m.ask.sent ≡ take k.ask.used k.ask.sent ++ all_used ts
 
 pub join : (k m p : Link) (xs ys : List Turn) → Goes k m xs → Goes m p ys → Goes k p (xs ++ ys)
 join k m p xs ys g h = record {
@@ -47,7 +51,7 @@ join k m p xs ys g h = record {
 }
 
 -- it is what it was, but for what is no turn
-pub goes_as : (k m : Link) → m.streams ≡ k.streams → (m.streams ≡ false → m.tell.sent ≡ k.tell.sent) → (m.serving ≡ true → k.serving ≡ true) → take m.ask.used m.ask.sent ≡ take k.ask.used k.ask.sent → Goes k m []
+pub goes_as : (k m : Link) → m.streams ≡ k.streams → (m.streams ≡ false → m.tell.sent ≡ k.tell.sent) → (MayServe m → MayServe k) → take m.ask.used m.ask.sent ≡ take k.ask.used k.ask.sent → Goes k m []
 goes_as k m same said serves used = record {
   plain = λ e. sym same ∙ e;
   said = λ e. said e ∙ sym (append-nil k.tell.sent);
@@ -73,14 +77,25 @@ not_true e = absurd (cc)
 both : {P : Type 0} (b : Bool) → b ≡ true → b ≡ false → P
 both b p q = absurd (cc)
 
+-- .. since it is open, or since the link waits
+pub may_serve : (k : Link) → k.serving ≡ true → MayServe k
+may_serve k q = ap (λ b. b || k.waits) q
+
+still_may : (b c : Bool) → c ≡ true → b || c ≡ true
+still_may true c q = refl
+still_may false c q = q
+
+pub may_still : (k : Link) → k.waits ≡ true → MayServe k
+may_still k q = still_may k.serving k.waits q
+
 pub shuts : (c : Bool) (k : Link) → Goes k (shut_if c k) []
-shuts true k = goes_as k (shut_if true k) refl (λ e. refl) (λ q. not_true q) refl
+shuts true k = goes_as k (shut_if true k) refl (λ e. refl) (still_may k.serving k.waits) refl
 shuts false k = stays k
 
 -- what goes to replicas reaches only links on which PSYNC was answered
 reaches : (c d : Bool) (bytes : List ℕ) (k : Link) → (d ≡ true → k.streams ≡ true) → Goes k (shut_if c (fed_if d bytes k)) []
 reaches c false bytes k h = shuts c k
-reaches true true bytes k h = goes_as k (shut_if true (fed_if true bytes k)) refl (λ e. both k.streams (h refl) e) (λ q. not_true q) refl
+reaches true true bytes k h = goes_as k (shut_if true (fed_if true bytes k)) refl (λ e. both k.streams (h refl) e) (still_may k.serving k.waits) refl
 reaches false true bytes k h = goes_as k (shut_if false (fed_if true bytes k)) refl (λ e. both k.streams (h refl) e) (λ q. q) refl
 
 -- ---- a step's own link
@@ -117,29 +132,29 @@ Left o u = (streams : Bool) (held : Option Transaction) (v : List ℕ) → o ≡
 one_said : (xs ys : List ℕ) → xs ++ ys ≡ xs ++ (ys ++ [])
 one_said xs ys = ap (λ z. xs ++ z) (sym (append-nil ys))
 
-pub own : (o : Option EndState) (k : Link) (reply : List ℕ) → IsWay k.ask → k.serving ≡ true → ((settled o (told reply k)).streams ≡ false → k.streams ≡ false) → Left o (unread k.ask)
+pub own : (o : Option EndState) (k : Link) (reply : List ℕ) → IsWay k.ask → k.serving ≡ true → (k.waits ≡ true → ⊥) → ((settled o (told reply k)).streams ≡ false → k.streams ≡ false) → Left o (unread k.ask)
     → Goes k (settled o (told reply k)) (record { used = used_at o (unread k.ask); said = reply } ∷ [])
-own None k reply way serving plain left = record { plain = plain; said = λ e. one_said k.tell.sent reply; serves = λ q. serving; used = λ e q. not_true q }
-own (Some (client u)) k reply way serving plain left = let t = left false None u refl in record {
+own None k reply way serving served plain left = record { plain = plain; said = λ e. one_said k.tell.sent reply; serves = λ q. may_serve k serving; used = λ e q. absurd (served q) }
+own (Some (client u)) k reply way serving served plain left = let t = left false None u refl in record {
   plain = plain;
   said = λ e. one_said k.tell.sent reply;
-  serves = λ q. serving;
+  serves = λ q. may_serve k serving;
   used = λ e q. used_front k.ask t.0 u way t.1 ∙ one_said (take k.ask.used k.ask.sent) (used_at (Some (client u)) (unread k.ask));
 }
-own (Some (waiting h u)) k reply way serving plain left = let t = left false (Some h) u refl in record {
+own (Some (waiting h u)) k reply way serving served plain left = let t = left false (Some h) u refl in record {
   plain = plain;
   said = λ e. one_said k.tell.sent reply;
-  serves = λ q. serving;
+  serves = λ q. may_serve k serving;
   used = λ e q. used_front k.ask t.0 u way t.1 ∙ one_said (take k.ask.used k.ask.sent) (used_at (Some (waiting h u)) (unread k.ask));
 }
-own (Some (replica u)) k reply way serving plain left = let t = left true None u refl in record {
+own (Some (replica u)) k reply way serving served plain left = let t = left true None u refl in record {
   plain = plain;
   said = λ e. one_said k.tell.sent reply;
-  serves = λ q. serving;
+  serves = λ q. may_serve k serving;
   used = λ e q. used_front k.ask t.0 u way t.1 ∙ one_said (take k.ask.used k.ask.sent) (used_at (Some (replica u)) (unread k.ask));
 }
-own (Some upstream) k reply way serving plain left = record { plain = plain; said = λ e. one_said k.tell.sent reply; serves = λ q. serving; used = λ e q. not_true q }
-own (Some shut) k reply way serving plain left = record { plain = plain; said = λ e. one_said k.tell.sent reply; serves = λ q. serving; used = λ e q. not_true q }
+own (Some upstream) k reply way serving served plain left = record { plain = plain; said = λ e. one_said k.tell.sent reply; serves = λ q. may_serve k serving; used = λ e q. absurd (served q) }
+own (Some shut) k reply way serving served plain left = record { plain = plain; said = λ e. one_said k.tell.sent reply; serves = λ q. may_serve k serving; used = λ e q. absurd (served q) }
 
 -- ---- the link at a place among all
 pub record There (links : List Link) (l : ℕ) (k : Link) (ts : List Turn) : Type 0 where

@@ -78,7 +78,7 @@ module _ (w v : WorldState) where
   stays (event.Client n) refusal.TooMuch c = absurd c
   stays (event.Client n) refusal.InputFull c = absurd c
   stays (event.Command l bytes) refusal.Nobody c = same c.1
-  stays (event.Command l bytes) refusal.Memory c = same c.1
+  stays (event.Command l bytes) refusal.Memory c = same c.2
   stays (event.Command l bytes) refusal.Drawn c = absurd c
   stays (event.Command l bytes) refusal.TooMuch c = absurd c
   stays (event.Command l bytes) refusal.InputFull c = absurd c
@@ -103,6 +103,16 @@ module _ (w v : WorldState) where
   stays (event.Dial n m) refusal.Drawn c = absurd c
   stays (event.Dial n m) refusal.TooMuch c = absurd c
   stays (event.Dial n m) refusal.InputFull c = absurd c
+  stays (event.Connect n) refusal.Nobody c = same c.1
+  stays (event.Connect n) refusal.Memory c = same c.2
+  stays (event.Connect n) refusal.Drawn c = absurd c
+  stays (event.Connect n) refusal.TooMuch c = absurd c
+  stays (event.Connect n) refusal.InputFull c = absurd c
+  stays (event.Accept l m) refusal.Nobody c = same c.1
+  stays (event.Accept l m) refusal.Memory c = same c.2
+  stays (event.Accept l m) refusal.Drawn c = absurd c
+  stays (event.Accept l m) refusal.TooMuch c = absurd c
+  stays (event.Accept l m) refusal.InputFull c = absurd c
   stays (event.Restart n kept id config) refusal.Drawn c = same c.1
   stays (event.Restart n kept id config) refusal.Nobody c = same c.2
   stays (event.Restart n kept id config) refusal.Memory c = same c.2

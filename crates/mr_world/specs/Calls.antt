@@ -1,5 +1,5 @@
 -- What each event of a World comes to. A refusal leaves the World as it is; the order in which causes stand is that of the cases.
-use Rattle.std.specs.Prelude.{◌≡◌, ◌≤◌, ◌+◌, ℕ, List, [], Bool, true, false, None, Some, Result, Ok, Err, length, slice_get, slice_set}
+use Rattle.std.specs.Prelude.{◌≡◌, ◌≢◌, ◌≤◌, ◌+◌, ℕ, List, [], Bool, true, false, None, Some, Result, Ok, Err, length, slice_get, slice_set}
 use Rattle.std.specs.FinMap.{empty}
 use Rattle.mr_links.specs.declared.link_id.LinkId.{LinkId}
 use Rattle.mr_links.specs.Links.{links_limit}
@@ -44,7 +44,7 @@ pub record Comes (w : WorldState) (n : ℕ) (v : WorldState) : Type 0 where
   pub is : v ≡ opened w n slot node name
 
 -- The node has opened as many links as it may, and stops.
-pub record StopsAtClient (w : WorldState) (n : ℕ) (v : WorldState) : Type 0 where
+pub record StopsForLinks (w : WorldState) (n : ℕ) (v : WorldState) : Type 0 where
   pub slot : Slot
   pub running : IsRunning w n slot
   pub spent : links_limit ≤ slot.node.ends.opened
@@ -52,7 +52,7 @@ pub record StopsAtClient (w : WorldState) (n : ℕ) (v : WorldState) : Type 0 wh
 
 pub data Clients (w : WorldState) (n : ℕ) (v : WorldState) : Type 0 where
   comes : Comes w n v → Clients w n v
-  stops : StopsAtClient w n v → Clients w n v
+  stops : StopsForLinks w n v → Clients w n v
   rests : IsDown w n → v ≡ w → Clients w n v
 
 abbrev pub ClientCall : WorldState → ℕ → WorldState → Result (Unit {0}) Refusal → Type 0
@@ -85,7 +85,7 @@ pub record Sends (w : WorldState) (l : ℕ) (bytes : List ℕ) (v : WorldState) 
 abbrev pub CommandCall : WorldState → ℕ → List ℕ → WorldState → Result (Unit {0}) Refusal → Type 0
 CommandCall w l bytes v (Ok done) = Sends w l bytes v
 CommandCall w l bytes v (Err refusal.Nobody) = NoneAsks w l × (v ≡ w)
-CommandCall w l bytes v (Err refusal.Memory) = ((k : Link) × AsksAt w l k) × (v ≡ w)
+CommandCall w l bytes v (Err refusal.Memory) = ((k : Link) × AsksAt w l k) × (bytes ≢ []) × (v ≡ w)
 CommandCall w l bytes v (Err refusal.Drawn) = ⊥
 CommandCall w l bytes v (Err refusal.TooMuch) = ⊥
 CommandCall w l bytes v (Err refusal.InputFull) = ⊥

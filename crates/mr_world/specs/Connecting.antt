@@ -1,4 +1,4 @@
--- What comes of a node that dials another, or itself. As in `Calls`.
+-- What comes of a node that dials another, or itself, which accepts at once. As in `Calls`.
 use Rattle.std.specs.Prelude.{◌≡◌, ◌≤◌, ℕ, true, false, Some, None, Result, Ok, Err, slice_get, slice_set}
 use Rattle.mr_links.specs.declared.link_id.LinkId.{LinkId}
 use Rattle.mr_links.specs.Links.{links_limit}
@@ -11,7 +11,7 @@ use Rattle.law_refinement.specs.Events.{IsRunning}
 use Rattle.law_refinement.specs.Carrying.{connected, put_node}
 use Rattle.mr_world.specs.declared.refusal.Refusal.{Refusal}
 use Rattle.mr_world.specs.declared.refusal.Refusal.TheVariants as refusal
-use Rattle.mr_world.specs.Calls.{IsDown}
+use Rattle.mr_world.specs.Calls.{IsDown, StopsForLinks}
 
 -- The node n is a replica that follows nobody, stopped or not; and m is there.
 pub record CanDial (w : WorldState) (n m : ℕ) : Type 0 where
@@ -45,13 +45,6 @@ pub record Connects (w : WorldState) (n m : ℕ) (v : WorldState) : Type 0 where
   pub sound : IsSound node
   pub is : v ≡ connected w n dialler node name outs m server served at
 
--- m has opened as many links as it may, and stops
-pub record ServerStops (w : WorldState) (m : ℕ) (v : WorldState) : Type 0 where
-  pub server : Slot
-  pub running : IsRunning w m server
-  pub spent : links_limit ≤ server.node.ends.opened
-  pub is : v ≡ put_node w m server (stopped_as server.node)
-
 -- m could open its end, but n, as it is behind that, has opened as many links as it may: n stops, and m has no end more
 pub record DiallerStops (w : WorldState) (n m : ℕ) (v : WorldState) : Type 0 where
   pub server : Slot
@@ -68,7 +61,7 @@ pub record DiallerStops (w : WorldState) (n m : ℕ) (v : WorldState) : Type 0 w
 
 pub data Dialled (w : WorldState) (n m : ℕ) (v : WorldState) : Type 0 where
   connects : Connects w n m v → Dialled w n m v
-  server_stops : BothRun w n m → ServerStops w m v → Dialled w n m v
+  server_stops : BothRun w n m → StopsForLinks w m v → Dialled w n m v
   dialler_stops : BothRun w n m → DiallerStops w n m v → Dialled w n m v
   dialler_rests : IsDown w n → v ≡ w → Dialled w n m v
   server_rests : IsDown w m → v ≡ w → Dialled w n m v

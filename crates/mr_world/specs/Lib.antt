@@ -9,5 +9,6 @@ pub mod Restarting
 pub mod Following
 pub mod Happening
 pub mod Connecting
+pub mod Accepting
 pub mod DialEvents
 pub mod Talking

@@ -17,6 +17,7 @@ use Rattle.mr_world.specs.Stepping.{TickCall}
 use Rattle.mr_world.specs.Serving.{StepCall}
 use Rattle.mr_world.specs.Following.{FollowCall}
 use Rattle.mr_world.specs.Connecting.{DialCall}
+use Rattle.mr_world.specs.Accepting.{AcceptCall, ConnectCall}
 use Rattle.mr_world.specs.Restarting.{RestartCall}
 
 abbrev pub Outcome : Type 0
@@ -53,6 +54,8 @@ EventCall w (event.Step l at given fresh) v r = StepAt w l at given fresh v r
 EventCall w (event.Tick n given) v r = TickCall w n given.now v r
 EventCall w (event.Break l at) v r = BreakAt w l at v r
 EventCall w (event.Dial n m) v r = DialCall w n m v r
+EventCall w (event.Connect n) v r = ConnectCall w n v r
+EventCall w (event.Accept l m) v r = AcceptCall w l m v r
 EventCall w (event.Restart n kept id config) v r = RestartCall w n kept.items id config.port config.backlog v r
 
 -- The Worlds behind these events, each of which was taken: one event between neighbours.

@@ -56,6 +56,8 @@ turns_by l w (event.Deliver m at count) v c = []
 turns_by l w (event.Tick n given) v c = []
 turns_by l w (event.Break m at) v c = []
 turns_by l w (event.Dial n m) v c = []
+turns_by l w (event.Connect n) v c = []
+turns_by l w (event.Accept k m) v c = []
 turns_by l w (event.Restart n kept id config) v c = []
 
 -- .. of a run of events that were taken

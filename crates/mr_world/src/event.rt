@@ -44,10 +44,20 @@ pub enum Event {
         link: usize,
         side: Side,
     },
-    /// A replica that follows nobody dials a node, itself or another, whichever it was told to follow.
+    /// A replica that follows nobody dials a node, itself or another, whichever it was told to follow, which accepts at once: `Connect` and
+    /// `Accept` in one.
     Dial {
         node: usize,
         to: usize,
+    },
+    /// A replica that follows nobody opens its end of a link, which waits for a node to accept it.
+    Connect {
+        node: usize,
+    },
+    /// A node accepts a link that waits, its own or another's.
+    Accept {
+        link: usize,
+        node: usize,
     },
     /// A node, stopped or not, begins anew under a drawn id, in the role in which it started, whatever bytes are found as its file. Its port
     /// and its backlog are those of the config.

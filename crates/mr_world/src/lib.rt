@@ -11,7 +11,7 @@ mod running;
 mod stepping;
 mod world;
 
-pub use connecting_laws::dials_are_events;
+pub use connecting_laws::{connects_and_accepts_are_events, dials_are_events};
 pub use event::Event;
 pub use mr_world_parts::Side;
 pub use refusal::Refusal;

@@ -4,6 +4,7 @@ ghost use Rattle.law_refinement.specs.Worlds.{IsWorld, no_world};
 ghost use Rattle.mr_world.specs.Calls.{BreakCall, ClientCall, CommandCall, LeaveCall, StartCall, TakeCall};
 ghost use Rattle.mr_world.specs.Running.{is_between_nodes};
 
+mod accepting;
 mod connecting;
 mod following;
 mod hearing;

@@ -10,7 +10,8 @@ use mr_repl::ReplId;
 use mr_world_parts::Side;
 
 impl World {
-    /// Events happen, one after another, until one is refused: its number, from 0, and why. Those before it stand, and it changes nothing.
+    /// Events happen, one after another, until one is refused: its number, from 0, and why. Those before it stand, and it changes nothing, but for
+    /// what a node took of a snapshot (`Refusal::Memory`).
     pub fn run(&mut self, events: &[Event]) -> Result<(), (usize, Refusal)>
         ensures { RunCall self.old events.now self.new result }
     {
@@ -43,6 +44,8 @@ impl World {
             Event::Tick { node, given } => self.tick(*node, *given),
             Event::Break { link, side } => self.close(*link, *side),
             Event::Dial { node, to } => self.dial(*node, *to),
+            Event::Connect { node } => self.connect(*node),
+            Event::Accept { link, node } => self.accept(*link, *node),
             Event::Restart {
                 node,
                 kept,

@@ -2,6 +2,7 @@
 ghost use Rattle.std.specs.Prelude.{◌≡◌, slice_get};
 ghost use Rattle.law_refinement.specs.Worlds.{no_world, IsWorld};
 ghost use Rattle.mr_world.specs.Calls.{BreakCall, ClientCall, CommandCall, LeaveCall, StartCall, TakeCall};
+ghost use Rattle.mr_world.specs.Accepting.{AcceptCall, ConnectCall};
 ghost use Rattle.mr_world.specs.Connecting.{DialCall};
 ghost use Rattle.mr_world.specs.Linking.{DeliverCall, DropCall};
 ghost use Rattle.mr_world.specs.Running.{is_between_nodes};
@@ -182,5 +183,21 @@ impl World {
         ensures { DialCall self.old n m self.new result }
     {
         self.parts.dial(self.alloc, self.seed, n, m)
+    }
+
+    /// A replica that follows nobody opens its end of a link, which comes behind all others and waits for a node to accept it. At a stopped node
+    /// nothing happens.
+    pub fn connect(&mut self, n: usize) -> Result<(), Refusal>
+        ensures { ConnectCall self.old n self.new result }
+    {
+        self.parts.connect(self.alloc, self.seed, n)
+    }
+
+    /// A node accepts a link that waits, and serves it from now on. Which node dialled, and whether it follows by the link still, doesn't matter. At a
+    /// stopped node nothing happens, and the link waits on.
+    pub fn accept(&mut self, l: usize, m: usize) -> Result<(), Refusal>
+        ensures { AcceptCall self.old l m self.new result }
+    {
+        self.parts.accept(l, m)
     }
 }

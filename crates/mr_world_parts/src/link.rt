@@ -3,7 +3,7 @@ ghost use Rattle.std.specs.Prelude.{◌≡◌, ◌≢◌, ◌+◌, ◌≤◌, �
 ghost use Rattle.mr_node_links.specs.Replicas.{is_named};
 ghost use Rattle.law_refinement.specs.State.{a_client, a_node};
 ghost use Rattle.law_refinement.specs.Way.{left_on, no_way, sent_on, taken_on};
-ghost use Rattle.law_refinement.specs.Carrying.{fed_if, is_at, opened_link, shut_if, told};
+ghost use Rattle.law_refinement.specs.Carrying.{accepted_by, fed_if, is_at, opened_link, shut_if, told};
 ghost use Rattle.mr_world_parts.specs.AtLink.{IsAsking, by_node, shut_at, heard_by};
 ghost use Rattle.mr_world_parts.specs.Lending.{took_at};
 ghost use Rattle.mr_world_parts.specs.Undoing.{asked, unasked, unfed_if, untold};
@@ -20,6 +20,7 @@ use std::marker::Model;
 pub struct Link {
     peer: Option<(usize, LinkId)>,
     asking: bool,
+    waits: bool,
     to: usize,
     name: LinkId,
     serving: bool,
@@ -29,7 +30,6 @@ pub struct Link {
 }
 
 impl Model for Link {
-    ghost use Rattle.std.specs.Prelude.{false};
     ghost use Rattle.law_refinement.specs.State.{Link as LinkState};
     ghost use Rattle.mr_world_parts.specs.Codes.{caller_as, link_code};
 
@@ -37,7 +37,7 @@ impl Model for Link {
 
     ghost coded = { link_code };
 
-    ghost view = { λ k. record { caller = caller_as k.peer k.asking; waits = false; to = k.to; name = k.name; serving = k.serving; streams = k.streams; ask = k.ask; tell = k.tell } };
+    ghost view = { λ k. record { caller = caller_as k.peer k.asking; waits = k.waits; to = k.to; name = k.name; serving = k.serving; streams = k.streams; ask = k.ask; tell = k.tell } };
 }
 
 impl Link {
@@ -48,6 +48,7 @@ impl Link {
         Link {
             peer: None,
             asking: true,
+            waits: false,
             to,
             name,
             serving: true,
@@ -74,6 +75,7 @@ impl Link {
         Link {
             peer: Some((n, name)),
             asking: false,
+            waits: false,
             to,
             name: at,
             serving: true,
@@ -81,6 +83,44 @@ impl Link {
             ask,
             tell: Way::new(alloc),
         }
+    }
+
+    /// The link of a node, which knows it by this name, that no node has accepted yet; this is what was sent on it.
+    pub fn waiting(alloc: Global, n: usize, name: LinkId, ask: Way) -> Link
+        ensures { result ≡
+            record {
+              caller = a_node n name;
+              waits = true;
+              to = n;
+              name = name;
+              serving = false;
+              streams = false;
+              ask = ask;
+              tell = no_way;
+            } }
+    {
+        // until a node accepts it, the one that dialled stands in the server's place
+        let mut link = Link::of_node(alloc, n, name, n, name, ask);
+        link.waits = true;
+        link.serving = false;
+        link
+    }
+
+    /// Whether no node has accepted it yet.
+    pub fn waits(&self) -> bool
+        ensures { result ≡ self.now.waits }
+    {
+        self.waits
+    }
+
+    /// A node serves it from now on, which knows it by this name: what was sent on it is there to be taken.
+    pub fn accept(&mut self, to: usize, name: LinkId)
+        ensures { self.new ≡ accepted_by to name self.old }
+    {
+        self.waits = false;
+        self.to = to;
+        self.name = name;
+        self.serving = true;
     }
 
     /// Whether it is a client's, whose end is open.

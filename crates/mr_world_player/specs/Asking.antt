@@ -1,7 +1,7 @@
 -- What the lines of a script ask of a World.
 use Rattle.std.specs.Prelude.{◌≡◌, ℕ, ◌≤◌, ◌^◌, List, [], Option, None, Some, take, slice_get}
 use Rattle.mr_node.specs.declared.config.Config.{Config}
-use Rattle.mr_world_script.specs.Said.{Said, nothing, starts, joins, sends, delivers, steps, ticks, breaks, dials, restarts, shows, gets}
+use Rattle.mr_world_script.specs.Said.{Said, nothing, starts, joins, sends, delivers, steps, ticks, breaks, dials, connects, accepts, restarts, shows, gets}
 use Rattle.mr_world_script.specs.declared.side.Side.{Side as SaidSide}
 use Rattle.mr_world_script.specs.declared.side.Side.TheVariants as said
 use Rattle.law_refinement.specs.State.{Slot, WorldState}
@@ -46,6 +46,8 @@ IsEvent backlog w said (event.Step l at given fresh) = said ≡ steps l (script_
 IsEvent backlog w said (event.Tick n given) = said ≡ ticks n given.now
 IsEvent backlog w said (event.Break l at) = said ≡ breaks l (script_side at)
 IsEvent backlog w said (event.Dial n m) = said ≡ dials n m
+IsEvent backlog w said (event.Connect n) = said ≡ connects n
+IsEvent backlog w said (event.Accept l n) = said ≡ accepts l n
 IsEvent backlog w said (event.Restart n kept id config) = Restarts w said n kept.items id × IsConfig backlog config
 
 abbrev pub IsAsked : ℕ → WorldState → Said → Asked → Type 0

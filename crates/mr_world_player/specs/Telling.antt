@@ -33,6 +33,8 @@ taken_answer (event.Step l at given fresh) nodes links links_now = Done
 taken_answer (event.Tick n given) nodes links links_now = Done
 taken_answer (event.Break l at) nodes links links_now = Done
 taken_answer (event.Dial n m) nodes links links_now = link_answer links links_now
+taken_answer (event.Connect n) nodes links links_now = link_answer links links_now
+taken_answer (event.Accept l n) nodes links links_now = Done
 taken_answer (event.Restart n kept id config) nodes links links_now = Done
 
 abbrev pub event_answer : Event → WorldState → WorldState → Result (Unit {0}) (ℕ × Refusal) → ScriptAnswer

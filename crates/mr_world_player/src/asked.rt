@@ -1,9 +1,11 @@
 // What a line asks of a World.
 ghost use Rattle.std.specs.Prelude.{◌≡◌, IfOk, take, slice_get};
 ghost use Rattle.mr_world_script.specs.Reading.{said_of};
-ghost use Rattle.mr_world_player.specs.Asking.{file_at, IsAsked, IsBacklog, IsConfig, script_side};
+ghost use Rattle.mr_world_script.specs.Said.{restarts};
+ghost use Rattle.mr_world_player.specs.Asking.{file_at, IsAsked, IsBacklog, IsConfig, IsEvent, script_side};
 
 use mr_node::Config;
+use mr_repl::ReplId;
 use mr_world::{Event, Side, World};
 use mr_world_script::Line;
 use std::alloc::{AllocError, Global};
@@ -54,6 +56,28 @@ fn kept_of(alloc: Global, world: &World, node: usize, count: usize) -> Result<Ve
     }
 }
 
+/// A node begins anew, with so many bytes of its file.
+fn restart_of(
+    alloc: Global,
+    world: &World,
+    backlog: usize,
+    node: usize,
+    count: usize,
+    id: ReplId,
+) -> Result<Event, AllocError>
+    requires { IsBacklog backlog }
+    ensures { IfOk result (IsEvent backlog world.now (restarts node count id)) }
+{
+    let kept = kept_of(alloc, world, node, count)?;
+    let config = config_of(false, backlog);
+    Ok(Event::Restart {
+        node,
+        kept,
+        id,
+        config,
+    })
+}
+
 /// What a line asks of a World whose nodes start with this backlog.
 pub(crate) fn asked_by(
     alloc: Global,
@@ -69,6 +93,8 @@ pub(crate) fn asked_by(
         Line::Show { node } => return Ok(Asked::Show(node)),
         Line::Got { link } => return Ok(Asked::Got(link)),
         Line::Dial { node, to } => Event::Dial { node, to },
+        Line::Connect { node } => Event::Connect { node },
+        Line::Accept { link, node } => Event::Accept { link, node },
         Line::Start { id, is_replica } => {
             let config = config_of(is_replica, backlog);
             Event::Start { id, config }
@@ -98,16 +124,7 @@ pub(crate) fn asked_by(
             let side = side_of(side);
             Event::Break { link, side }
         }
-        Line::Restart { node, count, id } => {
-            let kept = kept_of(alloc, world, node, count)?;
-            let config = config_of(false, backlog);
-            Event::Restart {
-                node,
-                kept,
-                id,
-                config,
-            }
-        }
+        Line::Restart { node, count, id } => restart_of(alloc, world, backlog, node, count, id)?,
     };
     Ok(Asked::Event(event))
 }

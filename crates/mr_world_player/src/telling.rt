@@ -35,7 +35,9 @@ fn taken(event: &Event, nodes: usize, links: usize, links_now: usize) -> ScriptA
 {
     match event {
         Event::Start { id: _, config: _ } => ScriptAnswer::Node(nodes),
-        Event::Client { node: _ } | Event::Dial { node: _, to: _ } => joined(links, links_now),
+        Event::Client { node: _ } | Event::Dial { node: _, to: _ } | Event::Connect { node: _ } => {
+            joined(links, links_now)
+        }
         _ => ScriptAnswer::Done,
     }
 }

@@ -8,13 +8,13 @@ use Rattle.std.proofs.lemmas.Int.{ints}
 use Rattle.mr_data.specs.Given.{IsMoment, last_moment}
 use Rattle.mr_bytes.specs.Number.{is_i64, number_of}
 use Rattle.mr_bytes.proofs.Numbers.{first, second, number_of-signed_decimal, number_text, same_bytes}
-use Rattle.mr_world_script.specs.Said.{Said, nothing, starts, joins, sends, delivers, steps, ticks, breaks, dials, restarts, shows, gets, NamesId, Says, SaysSend, request, text}
+use Rattle.mr_world_script.specs.Said.{Said, nothing, starts, joins, sends, delivers, steps, ticks, breaks, dials, connects, accepts, restarts, shows, gets, NamesId, Says, SaysSend, request, text}
 use Rattle.mr_world_script.specs.Words.{with, count_of, moment_if, moment_of, side_of, side_text, id_of}
-use Rattle.mr_world_script.specs.Reading.{text_of, names, is_named, named, given_of, start, client, send, raw, deliver, step, tick, «break», dial, restart, show, got, behind, said_by}
+use Rattle.mr_world_script.specs.Reading.{text_of, names, is_named, named, given_of, start, client, send, raw, deliver, step, tick, «break», dial, connect, accept, restart, show, got, behind, said_by}
 use Rattle.mr_world_script.specs.declared.side.Side.{Side}
 use Rattle.mr_world_script.specs.declared.side.Side.TheVariants.{Opener, Server}
 use Rattle.mr_world_script.specs.declared.event_name.EventName.{EventName}
-use Rattle.mr_world_script.specs.declared.event_name.EventName.TheVariants.{Start, Replica, Client, Send, Raw, Deliver, Step, Tick, Break, Dial, Restart, Show, Got}
+use Rattle.mr_world_script.specs.declared.event_name.EventName.TheVariants.{Start, Replica, Client, Send, Raw, Deliver, Step, Tick, Break, Dial, Connect, Accept, Restart, Show, Got}
 use Rattle.mr_world_script.proofs.Counts.{count_of-decimal, count_text}
 use Rattle.mr_world_script.proofs.Ids.{id_is, id_names}
 
@@ -69,6 +69,8 @@ what_is_said words (steps link side now number fresh) (word, h, fits, moment, sm
 what_is_said words (ticks node now) (fits, moment, e) = ap said_by e ∙ rw (count_of-decimal node fits, moment_of-signed_decimal now moment) refl
 what_is_said words (breaks link side) (fits, e) = ap said_by e ∙ rw (count_of-decimal link fits, side_of-side_text side) refl
 what_is_said words (dials node to) (fits, small, e) = ap said_by e ∙ rw (count_of-decimal node fits, count_of-decimal to small) refl
+what_is_said words (connects node) (fits, e) = ap said_by e ∙ rw (count_of-decimal node fits) refl
+what_is_said words (accepts link node) (fits, small, e) = ap said_by e ∙ rw (count_of-decimal link fits, count_of-decimal node small) refl
 what_is_said words (restarts node count id) (word, h, fits, small, e) = ap said_by e ∙ rw (count_of-decimal node fits, count_of-decimal count small, id_is word id h) refl
 what_is_said words (shows node) (fits, e) = ap said_by e ∙ rw (count_of-decimal node fits) refl
 what_is_said words (gets link) (fits, e) = ap said_by e ∙ rw (count_of-decimal link fits) refl
@@ -162,6 +164,14 @@ dial_says : (words : List (List ℕ)) → IfSome (dial words) (Says (codes "dial
 dial_says (node ∷ to ∷ []) = with_count node _ _ (λ n fits e. with_count to _ _ (λ m small u. (fits, small, λ i. codes "dial" ∷ e i ∷ u i ∷ [])))
 dial_says _ = tt
 
+connect_says : (words : List (List ℕ)) → IfSome (connect words) (Says (codes "connect" ∷ words))
+connect_says (node ∷ []) = with_count node _ _ (λ n fits e. (fits, ap (λ w. codes "connect" ∷ w ∷ []) e))
+connect_says _ = tt
+
+accept_says : (words : List (List ℕ)) → IfSome (accept words) (Says (codes "accept" ∷ words))
+accept_says (link ∷ node ∷ []) = with_count link _ _ (λ l fits e. with_count node _ _ (λ n small u. (fits, small, λ i. codes "accept" ∷ e i ∷ u i ∷ [])))
+accept_says _ = tt
+
 restart_says : (words : List (List ℕ)) → IfSome (restart words) (Says (codes "restart" ∷ words))
 restart_says (node ∷ count ∷ id ∷ []) =
     with_count node _ _ (λ n fits e. with_count count _ _ (λ c small u. with_id id _ _ (λ i h. (id, h, fits, small, λ j. codes "restart" ∷ e j ∷ u j ∷ id ∷ []))))
@@ -186,6 +196,8 @@ behind_says Step words = step_says words
 behind_says Tick words = tick_says words
 behind_says Break words = break_says words
 behind_says Dial words = dial_says words
+behind_says Connect words = connect_says words
+behind_says Accept words = accept_says words
 behind_says Restart words = restart_says words
 behind_says Show words = show_says words
 behind_says Got words = got_says words

@@ -3,10 +3,10 @@ use Rattle.std.specs.Prelude.{ℕ, ℤ, Bool, true, false, List, [], ◌∷◌, 
 use Rattle.std.specs.Str.{bytes_eq}
 use Rattle.mr_data.specs.declared.given.Given.{Given}
 use Rattle.mr_resp.specs.Spelling.{array}
-use Rattle.mr_world_script.specs.Said.{Said, nothing, starts, joins, sends, delivers, steps, ticks, breaks, dials, restarts, shows, gets}
+use Rattle.mr_world_script.specs.Said.{Said, nothing, starts, joins, sends, delivers, steps, ticks, breaks, dials, connects, accepts, restarts, shows, gets}
 use Rattle.mr_world_script.specs.Words.{with, count_of, moment_of, side_of, id_of}
 use Rattle.mr_world_script.specs.declared.event_name.EventName.{EventName}
-use Rattle.mr_world_script.specs.declared.event_name.EventName.TheVariants.{Start, Replica, Client, Send, Raw, Deliver, Step, Tick, Break, Dial, Restart, Show, Got}
+use Rattle.mr_world_script.specs.declared.event_name.EventName.TheVariants.{Start, Replica, Client, Send, Raw, Deliver, Step, Tick, Break, Dial, Connect, Accept, Restart, Show, Got}
 use Rattle.mr_world_script.specs.declared.line.Line.{Line}
 use Rattle.mr_world_script.specs.declared.line.Line.TheVariants as line
 
@@ -21,12 +21,14 @@ text_of Step = codes "step"
 text_of Tick = codes "tick"
 text_of Break = codes "break"
 text_of Dial = codes "dial"
+text_of Connect = codes "connect"
+text_of Accept = codes "accept"
 text_of Restart = codes "restart"
 text_of Show = codes "show"
 text_of Got = codes "got"
 
 abbrev pub names : List EventName
-names = Start ∷ Replica ∷ Client ∷ Send ∷ Raw ∷ Deliver ∷ Step ∷ Tick ∷ Break ∷ Dial ∷ Restart ∷ Show ∷ Got ∷ []
+names = Start ∷ Replica ∷ Client ∷ Send ∷ Raw ∷ Deliver ∷ Step ∷ Tick ∷ Break ∷ Dial ∷ Connect ∷ Accept ∷ Restart ∷ Show ∷ Got ∷ []
 
 abbrev pub is_named : List ℕ → EventName → Bool
 is_named word name = bytes_eq (text_of name) word
@@ -80,6 +82,14 @@ abbrev pub dial : List (List ℕ) → Option Said
 dial (node ∷ to ∷ []) = with (count_of node) (λ n. with (count_of to) (λ m. Some (dials n m)))
 dial _ = None
 
+abbrev pub connect : List (List ℕ) → Option Said
+connect (node ∷ []) = with (count_of node) (λ n. Some (connects n))
+connect _ = None
+
+abbrev pub accept : List (List ℕ) → Option Said
+accept (link ∷ node ∷ []) = with (count_of link) (λ l. with (count_of node) (λ n. Some (accepts l n)))
+accept _ = None
+
 abbrev pub restart : List (List ℕ) → Option Said
 restart (node ∷ count ∷ id ∷ []) = with (count_of node) (λ n. with (count_of count) (λ c. with (id_of id) (λ i. Some (restarts n c i))))
 restart _ = None
@@ -104,6 +114,8 @@ behind Step words = step words
 behind Tick words = tick words
 behind Break words = «break» words
 behind Dial words = dial words
+behind Connect words = connect words
+behind Accept words = accept words
 behind Restart words = restart words
 behind Show words = show words
 behind Got words = got words
@@ -124,6 +136,8 @@ said_of (line.Step link side given fresh) = steps link side given.now given.word
 said_of (line.Tick node given) = ticks node given.now
 said_of (line.Break link side) = breaks link side
 said_of (line.Dial node to) = dials node to
+said_of (line.Connect node) = connects node
+said_of (line.Accept link node) = accepts link node
 said_of (line.Restart node count id) = restarts node count id
 said_of (line.Show node) = shows node
 said_of (line.Got link) = gets link

@@ -18,6 +18,8 @@ pub data Said : Type 0 where
   ticks : (node : ℕ) (now : ℤ) → Said
   breaks : (link : ℕ) (side : Side) → Said
   dials : (node to : ℕ) → Said
+  connects : (node : ℕ) → Said
+  accepts : (link node : ℕ) → Said
   restarts : (node count : ℕ) (id : List ℕ) → Said
   shows : (node : ℕ) → Said
   gets : (link : ℕ) → Said
@@ -50,6 +52,8 @@ Says words (steps link side now number fresh) = (word : List ℕ) × NamesId wor
 Says words (ticks node now) = IsCount node × IsMoment now × (words ≡ codes "tick" ∷ decimal node ∷ signed_decimal now ∷ [])
 Says words (breaks link side) = IsCount link × (words ≡ codes "break" ∷ decimal link ∷ side_text side ∷ [])
 Says words (dials node to) = IsCount node × IsCount to × (words ≡ codes "dial" ∷ decimal node ∷ decimal to ∷ [])
+Says words (connects node) = IsCount node × (words ≡ codes "connect" ∷ decimal node ∷ [])
+Says words (accepts link node) = IsCount link × IsCount node × (words ≡ codes "accept" ∷ decimal link ∷ decimal node ∷ [])
 Says words (restarts node count id) = (word : List ℕ) × NamesId word id × IsCount node × IsCount count
     × (words ≡ codes "restart" ∷ decimal node ∷ decimal count ∷ word ∷ [])
 Says words (shows node) = IsCount node × (words ≡ codes "show" ∷ decimal node ∷ [])

@@ -54,10 +54,19 @@ pub enum Line {
         link: usize,
         side: Side,
     },
-    /// `dial N M`: a node opens a link to another.
+    /// `dial N M`: a node opens a link to another, which accepts it at once.
     Dial {
         node: usize,
         to: usize,
+    },
+    /// `connect N`: a node opens its end of a link, which waits for a node to accept it.
+    Connect {
+        node: usize,
+    },
+    /// `accept L N`: a node accepts a link that waits.
+    Accept {
+        link: usize,
+        node: usize,
     },
     /// `restart N n ID`: a node begins anew under a drawn id, with n bytes of its file, or all where it has fewer.
     Restart {

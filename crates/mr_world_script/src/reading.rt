@@ -2,7 +2,7 @@
 ghost use Rattle.std.specs.Prelude.{◌≡◌, ◌∷◌, IfOk, map, option_map};
 ghost use Rattle.std.specs.Cow.{cow_slice_items};
 ghost use Rattle.mr_resp.specs.Spelling.{array};
-ghost use Rattle.mr_world_script.specs.Reading.{behind, client, deliver, dial, got, raw, restart, said_by, said_of, send, show, start, step, tick, «break» as broken};
+ghost use Rattle.mr_world_script.specs.Reading.{accept, behind, client, connect, deliver, dial, got, raw, restart, said_by, said_of, send, show, start, step, tick, «break» as broken};
 
 use crate::event_name::EventName;
 use crate::line::Line;
@@ -49,6 +49,8 @@ fn behind(
         EventName::Tick => Ok(tick(words)),
         EventName::Break => Ok(broken(words)),
         EventName::Dial => Ok(dial(words)),
+        EventName::Connect => Ok(connect(words)),
+        EventName::Accept => Ok(accept(words)),
         EventName::Restart => Ok(restart(words)),
         EventName::Show => Ok(show(words)),
         EventName::Got => Ok(got(words)),
@@ -189,6 +191,31 @@ fn dial(words: &[CowSlice<'_, u8>]) -> Option<Line>
         [node, to] => Some(Line::Dial {
             node: read_count(node.as_slice())?,
             to: read_count(to.as_slice())?,
+        }),
+        _ => None,
+    }
+}
+
+/// `connect N`
+fn connect(words: &[CowSlice<'_, u8>]) -> Option<Line>
+    ensures { option_map said_of result ≡ connect (map cow_slice_items words.now) }
+{
+    match words {
+        [node] => Some(Line::Connect {
+            node: read_count(node.as_slice())?,
+        }),
+        _ => None,
+    }
+}
+
+/// `accept L N`
+fn accept(words: &[CowSlice<'_, u8>]) -> Option<Line>
+    ensures { option_map said_of result ≡ accept (map cow_slice_items words.now) }
+{
+    match words {
+        [link, node] => Some(Line::Accept {
+            link: read_count(link.as_slice())?,
+            node: read_count(node.as_slice())?,
         }),
         _ => None,
     }

@@ -37,11 +37,11 @@ impl Parts {
         if !self.slots[m].is_up() {
             return Ok(());
         }
-        self.connect(alloc, seed, n, m)
+        self.open_both(alloc, seed, n, m)
     }
 
     /// The end of the node that is dialled comes, and then the other's. Where that one can't come, the first is taken back.
-    fn connect(
+    fn open_both(
         &mut self,
         alloc: Global,
         seed: RandomState,

@@ -1,4 +1,4 @@
-use Rattle.std.proofs.Common.{rules, ◌≡◌, ◌<◌, ◌∙◌, length, sym, subst}
+use Rattle.std.proofs.Common.{rules, [], ◌≡◌, ◌≢◌, ◌<◌, ◌∙◌, length, sym, subst}
 use Rattle.law_refinement.specs.Way.{sent_on}
 use Rattle.law_refinement.specs.State.{WorldState, Link}
 use Rattle.law_refinement.proofs.Places.{some_is}
@@ -13,8 +13,10 @@ returns-then-is_err c =
     let w : WorldState = record { slots = c.self.inside.slots.items; links = c.self.inside.links.items; book = c.self.inside.book.items } in
     let within : c.args.l < length c.self.inside.links.items = search rules in
     let asking : IsAsking c.index.result.now = search rules in
-    let same : c.ask.new.self ≡ c.index_mut.result.now = search rules in (
+    let same : c.ask.new.self ≡ c.index_mut.result.now = search rules in
+    let some : c.args.bytes.now ≢ [] = search rules in (
       (c.index.result.now, subst (λ (z : WorldState). AsksAt z c.args.l c.index.result.now) c.self.view_is (asks_here w c.args.l c.index.result.now within c.index.ensures asking)),
+      some,
       same_links w c.args.l c.index_mut.result.now within c.index_mut.ensures.value c.ask.new.self same ∙ c.self.view_is,
     )
 

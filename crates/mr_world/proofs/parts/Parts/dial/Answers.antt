@@ -25,8 +25,8 @@ returns-then-not-is_up-2 c =
     subst (λ (z : WorldState). CanDial z c.args.n c.args.m × Dialled z c.args.n c.args.m z) c.self.view_is
     (can w c.args.n c.args.m c.index.result.now c.index-3.result.now n_in c.index.ensures m_in c.index-3.ensures waits.0 waits.1, server_rests_here w c.args.n c.args.m c.index.result.now c.index-3.result.now n_in c.index.ensures m_in c.index-3.ensures waits.0 waits.1 (sym c.is_up-2.ensures ∙ c.if-not-is_up-2.true))
 
-pub connect-requires-clause-both : goal.connect-requires-clause-both
-connect-requires-clause-both c =
+pub open_both-requires-clause-both : goal.open_both-requires-clause-both
+open_both-requires-clause-both c =
     let w : WorldState = record { slots = c.self.inside.slots.items; links = c.self.inside.links.items; book = c.self.inside.book.items } in
     let n_in : c.args.n < length c.self.inside.slots.items = search rules in
     let m_in : c.args.m < length c.self.inside.slots.items = search rules in
