@@ -1,87 +1,111 @@
 -- What is told at the end of a script.
-use Rattle.std.proofs.Common.{◌≡◌, ◌≢◌, ℕ, List, [], ◌++◌, Option, take, sym, refl, subst}
+use Rattle.std.proofs.Common.{◌≡◌, ◌≢◌, ◌∙◌, ℕ, suc, List, [], ◌∷◌, ◌++◌, Option, take, sym, ap, refl, subst, append-nil, append_assoc}
 use Rattle.std.specs.Prelude.{Result, Ok, Err}
 use Rattle.std.specs.Io.KnownBytes.{Appends}
-use Rattle.std.proofs.KnownBytes.{Appends-nil, Appends-trans, Consumes-nil}
-use Rattle.mr_console.proofs.LinesPlayed.{none_played, stopped}
-use Rattle.mr_console.specs.Faults.{IsInner}
+use Rattle.std.proofs.KnownBytes.{Appends-nil, Appends-trans}
+use Rattle.mr_console.proofs.LinesPlayed.{all_begun, silent, then_begun}
+use Rattle.mr_console.specs.Conduct.{Conduct}
 use Rattle.mr_console.specs.Outputs.{IsBegun}
-use Rattle.mr_console.specs.Scripts.{CutsEnds, EndsLate, EndsLine, EndsScript, Plays, PlaysAll, PlaysScript, PlaysToLate, StopsShort, TellsEnd, amid, at_late, behind, endings_text}
+use Rattle.mr_console.specs.Scripts.{AreEndLines, CutsEnds, EndsLate, EndsLine, EndsScript, Plays, PlaysAll, PlaysScript, PlaysToLate, StopsShort, TellsEnd, all_places, amid, at_end, at_late}
 use Rattle.mr_console.specs.Telling.{end_line, late}
+use Rattle.mr_console.specs.declared.ending.Ending.{Ending}
 use Rattle.mr_console.specs.declared.fault.TrioFault.{TrioFault}
 use Rattle.mr_console.specs.declared.fault.TrioFault.TheVariants.{Stream, Stopped, Socket, Late}
 use Rattle.mr_console.specs.declared.place.Place.{Place}
 use Rattle.mr_console.specs.declared.place.Place.TheVariants.{First, Second, Third}
 
-cut_first : (place : Place) (x y : Option (List ℕ)) (f : TrioFault) → EndsLine place x y (Err f) → (text : List ℕ) × Appends x y text
-cut_first place x y Stream h = (take h.begun.0 (end_line place h.ending), h.begun.2)
-cut_first place x y Stopped h = ([], h)
-cut_first place x y Socket h = ([], h)
-cut_first place x y Late h = absurd h
+module _ {N : Type 0} (k : Conduct N) (m : N) where
+  no_lines : AreEndLines k m [] []
+  no_lines = refl
 
-as_cut : (place : Place) (x y z : Option (List ℕ)) (f : TrioFault) (front : List ℕ) → Appends x y front → EndsLine place y z (Err f) → EndsScript x z (Err f)
-as_cut place x y z Stream front told h = let c = cut_first place y z Stream h in record { text = front ++ c.0; told = Appends-trans x y z front c.0 told c.1 }
-as_cut place x y z Stopped front told h = record { text = front ++ []; told = Appends-trans x y z front [] told h }
-as_cut place x y z Socket front told h = record { text = front ++ []; told = Appends-trans x y z front [] told h }
-as_cut place x y z Late front told h = absurd h
+  one_line : (place : Place) (e : Ending) → k.ends_as m place e → AreEndLines k m (place ∷ []) (end_line place e)
+  one_line place e is = (e, ([], (is, refl, sym (append-nil (end_line place e)))))
 
-pub first_cut : (x y : Option (List ℕ)) (f : TrioFault) → EndsLine First x y (Err f) → EndsScript x y (Err f)
-first_cut x y f h = as_cut First x x y f [] (Appends-nil x) h
+  -- one line more
+  pushed : (ps : List Place) (place : Place) (e : Ending) (text : List ℕ) → AreEndLines k m ps text → k.ends_as m place e → AreEndLines k m (ps ++ place ∷ []) (text ++ end_line place e)
+  pushed [] place e text lines is = subst (λ t. AreEndLines k m (place ∷ []) (t ++ end_line place e)) (sym lines) (one_line place e is)
+  pushed (p ∷ ps) place e text lines is =
+      let rest = lines.1.0 in (
+        lines.0,
+        (
+          rest ++ end_line place e,
+          (
+            lines.1.1.0,
+            pushed ps place e rest lines.1.1.1 is,
+            ap (λ t. t ++ end_line place e) lines.1.1.2 ∙ append_assoc (end_line p lines.0) rest (end_line place e),
+          ),
+        ),
+      )
 
-pub second_cut : (x y z : Option (List ℕ)) (f : TrioFault) → TellsEnd First x y → EndsLine Second y z (Err f) → EndsScript x z (Err f)
-second_cut x y z f a h = as_cut Second x y z f (end_line First a.ending) a.told h
+  -- After the lines on the first of the nodes, the line on one more failed.
+  as_cut : (count : ℕ) (place : Place) (x y z : Option (List ℕ)) (f : TrioFault) (text : List ℕ) → take (suc count) all_places ≡ take count all_places ++ place ∷ [] → AreEndLines k m (take count all_places) text
+      → Appends x y text → EndsLine k m place y z (Err f) → EndsScript k m x z (Err f)
+  as_cut count place x y z Stream text next lines told h = record {
+    count = suc count;
+    text = text ++ end_line place h.ending;
+    lines = subst (λ ps. AreEndLines k m ps (text ++ end_line place h.ending)) (sym next) (pushed (take count all_places) place h.ending text lines h.is);
+    begun = then_begun x y z text (end_line place h.ending) told h.begun;
+  }
+  as_cut count place x y z Stopped text next lines told h = record { count = count; text = text; lines = lines; begun = all_begun x z text (silent x y z text told h) }
+  as_cut count place x y z Socket text next lines told h = record { count = count; text = text; lines = lines; begun = all_begun x z text (silent x y z text told h) }
+  as_cut count place x y z Late text next lines told h = absurd h
 
-pub all_ends : (x y z w : Option (List ℕ)) (result : Result (Unit {0}) TrioFault) → TellsEnd First x y → TellsEnd Second y z → EndsLine Third z w result → EndsScript x w result
-all_ends x y z w (Ok u) a b h = record {
-  endings = record { first = a.ending; second = b.ending; third = h.ending };
-  told = Appends-trans x y w (end_line First a.ending) (end_line Second b.ending ++ end_line Third h.ending) a.told
-      (Appends-trans y z w (end_line Second b.ending) (end_line Third h.ending) b.told h.told);
-}
-all_ends x y z w (Err f) a b h = as_cut Third x z w f (end_line First a.ending ++ end_line Second b.ending) (Appends-trans x y z (end_line First a.ending) (end_line Second b.ending) a.told b.told) h
+  pub first_cut : (x y : Option (List ℕ)) (f : TrioFault) → EndsLine k m First x y (Err f) → EndsScript k m x y (Err f)
+  first_cut x y f h = as_cut 0 First x x y f [] refl no_lines (Appends-nil x) h
+
+  pub second_cut : (x y z : Option (List ℕ)) (f : TrioFault) → TellsEnd k m First x y → EndsLine k m Second y z (Err f) → EndsScript k m x z (Err f)
+  second_cut x y z f a h = as_cut 1 Second x y z f (end_line First a.ending) refl (one_line First a.ending a.is) a.told h
+
+  pub all_ends : (x y z w : Option (List ℕ)) (result : Result (Unit {0}) TrioFault) → TellsEnd k m First x y → TellsEnd k m Second y z → EndsLine k m Third z w result → EndsScript k m x w result
+  all_ends x y z w result a b h =
+      let two : AreEndLines k m (First ∷ Second ∷ []) (end_line First a.ending ++ end_line Second b.ending) = pushed (First ∷ []) Second b.ending (end_line First a.ending) (one_line First a.ending a.is) b.is in
+      let told : Appends x z (end_line First a.ending ++ end_line Second b.ending) = Appends-trans x y z (end_line First a.ending) (end_line Second b.ending) a.told b.told in
+      third_told x z w result (end_line First a.ending ++ end_line Second b.ending) two told h
+    where
+      third_told : (x z w : Option (List ℕ)) (result : Result (Unit {0}) TrioFault) (text : List ℕ) → AreEndLines k m (First ∷ Second ∷ []) text → Appends x z text → EndsLine k m Third z w result → EndsScript k m x w result
+      third_told x z w (Ok u) text two told h = record {
+        text = text ++ end_line Third h.ending;
+        lines = pushed (First ∷ Second ∷ []) Third h.ending text two h.is;
+        told = Appends-trans x z w text (end_line Third h.ending) told h.told;
+      }
+      third_told x z w (Err f) text two told h = as_cut 2 Third x z w f text refl two told h
 
 -- ---- behind all lines
-cut_script : (a b x y z : Option (List ℕ)) → PlaysAll a b x y → CutsEnds y z → StopsShort a b x z
-cut_script a b x y z all cut = behind y all cut.text cut.told
+module _ {N : Type 0} (k : Conduct N) (n m : N) where
+  pub script_ends : (a b x y z : Option (List ℕ)) (result : Result (Unit {0}) TrioFault) → PlaysAll k n a b x y m → EndsScript k m y z result → PlaysScript k n a b x z m result
+  script_ends a b x y z (Ok u) all ends = record {
+    plays = all.plays;
+    played = all.played;
+    rest = all.rest;
+    read = all.read;
+    is_rest = all.is_rest;
+    text = ends.text;
+    lines = ends.lines;
+    told = Appends-trans x y z _ ends.text all.told ends.told;
+  }
+  script_ends a b x y z (Err Stream) all ends = at_end y all ends
+  script_ends a b x y z (Err Stopped) all ends = at_end y all ends
+  script_ends a b x y z (Err Socket) all ends = at_end y all ends
+  script_ends a b x y z (Err Late) all ends = absurd ends
 
-pub script_ends : (a b x y z : Option (List ℕ)) (result : Result (Unit {0}) TrioFault) → PlaysAll a b x y → EndsScript y z result → PlaysScript a b x z result
-script_ends a b x y z (Ok u) all ends = record {
-  plays = all.plays;
-  played = all.played;
-  rest = all.rest;
-  read = all.read;
-  is_rest = all.is_rest;
-  endings = ends.endings;
-  told = Appends-trans x y z _ (endings_text ends.endings) all.told ends.told;
-}
-script_ends a b x y z (Err Stream) all ends = cut_script a b x y z all ends
-script_ends a b x y z (Err Stopped) all ends = cut_script a b x y z all ends
-script_ends a b x y z (Err Socket) all ends = cut_script a b x y z all ends
-script_ends a b x y z (Err Late) all ends = absurd ends
+  -- ---- where a line is late
+  pub late_told : (a b x y z : Option (List ℕ)) → PlaysToLate k n a b x y m → Appends y z late → EndsLate k n a b x z m
+  late_told a b x y z played told = record {
+    plays = played.plays;
+    between = played.between;
+    played = played.played;
+    line = played.line;
+    delayed = played.delayed;
+    read = played.read;
+    told = Appends-trans x y z _ late played.told told;
+  }
 
--- ---- where a line is late
-pub late_told : (a b x y z : Option (List ℕ)) → PlaysToLate a b x y → Appends y z late → EndsLate a b x z
-late_told a b x y z played told = record {
-  plays = played.plays;
-  played = played.played;
-  line = played.line;
-  asks = played.asks;
-  read = played.read;
-  told = Appends-trans x y z _ late played.told told;
-}
+  pub late_cut : (a b x y z : Option (List ℕ)) (f : TrioFault) → PlaysToLate k n a b x y m → IsBegun y z late → f ≡ Stream → PlaysScript k n a b x z m (Err f)
+  late_cut a b x y z f played begun is = subst (λ (e : TrioFault). PlaysScript k n a b x z m (Err e)) (sym is) (at_late y played begun)
 
-pub late_cut : (a b x y z : Option (List ℕ)) (f : TrioFault) → PlaysToLate a b x y → IsBegun y z late → f ≡ Stream → PlaysScript a b x z (Err f)
-late_cut a b x y z f played begun is = subst (λ (e : TrioFault). PlaysScript a b x z (Err e)) (sym is) (at_late y played begun)
-
--- ---- where something failed
-pub script_failed : (a b x y : Option (List ℕ)) (f : TrioFault) → f ≢ Late → Plays a b x y (Err f) → PlaysScript a b x y (Err f)
-script_failed a b x y Stream other played = amid played
-script_failed a b x y Stopped other played = amid played
-script_failed a b x y Socket other played = amid played
-script_failed a b x y Late other played = absurd (other refl)
-
--- .. before anything was read
-pub never_begun : (a b : Option (List ℕ)) (f : TrioFault) → IsInner f → PlaysScript a a b b (Err f)
-never_begun a b Stream is = absurd is
-never_begun a b Stopped is = amid (stopped a a a b b b [] (none_played a b) (Consumes-nil a) (Appends-nil b))
-never_begun a b Socket is = amid (stopped a a a b b b [] (none_played a b) (Consumes-nil a) (Appends-nil b))
-never_begun a b Late is = absurd is
+  -- ---- where something failed
+  pub script_failed : (a b x y : Option (List ℕ)) (f : TrioFault) → f ≢ Late → Plays k n a b x y m (Err f) → PlaysScript k n a b x y m (Err f)
+  script_failed a b x y Stream other played = amid played
+  script_failed a b x y Stopped other played = amid played
+  script_failed a b x y Socket other played = amid played
+  script_failed a b x y Late other played = absurd (other refl)

@@ -1,4 +1,5 @@
 pub mod Asking
+pub mod Conduct
 pub mod Faults
 pub mod Inputs
 pub mod Lines

@@ -1,9 +1,9 @@
 // A script, played.
-ghost use Rattle.std.specs.Prelude.{◌≡◌, IfOk, IfErr, OnOk, OnErr};
+ghost use Rattle.std.specs.Prelude.{◌≡◌, IfErr, OnOk, OnErr, map};
+ghost use Rattle.std.specs.Cow.{cow_slice_items};
 ghost use Rattle.std.specs.Io.KnownBytes.{Appends};
-ghost use Rattle.mr_console.specs.Faults.{IsOfPlay};
 ghost use Rattle.mr_console.specs.Outputs.{IsBegun};
-ghost use Rattle.mr_console.specs.Scripts.{EndsLine, EndsScript, IsAnswer, Plays, PlaysLine, PlaysScript};
+ghost use Rattle.mr_console.specs.Scripts.{AnswersBy, EndsLine, EndsScript, Plays, PlaysLine, PlaysScript};
 
 use crate::asking::{Asked, read_asked};
 use crate::fault::TrioFault;
@@ -24,8 +24,8 @@ pub fn play<N: Nodes, R: BufRead, W: Write>(
     input: &mut R,
     output: &mut W,
 ) -> Result<(), TrioFault>
-    ensures { PlaysScript (R.remaining input.old) (R.remaining input.new) (W.contents output.old)
-        (W.contents output.new) result }
+    ensures { PlaysScript N.conduct nodes.old (R.remaining input.old) (R.remaining input.new)
+        (W.contents output.old) (W.contents output.new) nodes.new result }
 {
     match play_all(alloc, nodes, input, output) {
         Ok(()) => tell_ends(alloc, nodes, output),
@@ -44,8 +44,8 @@ fn play_all<N: Nodes, R: BufRead, W: Write>(
     input: &mut R,
     output: &mut W,
 ) -> Result<(), TrioFault>
-    ensures { Plays (R.remaining input.old) (R.remaining input.new) (W.contents output.old)
-        (W.contents output.new) result }
+    ensures { Plays N.conduct nodes.old (R.remaining input.old) (R.remaining input.new)
+        (W.contents output.old) (W.contents output.new) nodes.new result }
 {
     let mut line = Vec::new(alloc);
     for _line in 0..u64::MAX {
@@ -69,7 +69,8 @@ fn play_line<N: Nodes, W: Write>(
     line: &[u8],
     output: &mut W,
 ) -> Result<(), TrioFault>
-    ensures { PlaysLine line.now (W.contents output.old) (W.contents output.new) result }
+    ensures { PlaysLine N.conduct nodes.old line.now (W.contents output.old)
+        (W.contents output.new) nodes.new result }
 {
     match read_asked(alloc, line) {
         Ok(Asked::Nothing) => Ok(()),
@@ -82,15 +83,15 @@ fn play_line<N: Nodes, W: Write>(
     }
 }
 
-/// The line that answers a request.
+/// Asks the node there a request: the line that answers it.
 fn answer<N: Nodes>(
     alloc: Global,
     nodes: &mut N,
     place: Place,
     words: Vec<CowSlice<'_, u8>>,
 ) -> Result<Vec<u8>, TrioFault>
-    ensures said { IfOk result IsAnswer }
-    ensures fault { IfErr result IsOfPlay }
+    ensures { AnswersBy N.conduct nodes.old place (map cow_slice_items words.entry.items)
+        nodes.new result }
 {
     match nodes.ask(place, words) {
         Ok(reply) => match reply_line(alloc, reply.as_slice()) {
@@ -103,7 +104,8 @@ fn answer<N: Nodes>(
 
 /// Tells what each node is.
 fn tell_ends<N: Nodes, W: Write>(alloc: Global, nodes: &N, output: &mut W) -> Result<(), TrioFault>
-    ensures { EndsScript (W.contents output.old) (W.contents output.new) result }
+    ensures { EndsScript N.conduct nodes.now (W.contents output.old) (W.contents output.new)
+        result }
 {
     match tell_end(alloc, nodes, Place::First, output) {
         Ok(()) => {}
@@ -123,7 +125,8 @@ fn tell_end<N: Nodes, W: Write>(
     place: Place,
     output: &mut W,
 ) -> Result<(), TrioFault>
-    ensures { EndsLine place (W.contents output.old) (W.contents output.new) result }
+    ensures { EndsLine N.conduct nodes.now place (W.contents output.old) (W.contents output.new)
+        result }
 {
     match nodes.ending(place) {
         Ok(ending) => match end_line(alloc, place, ending) {

@@ -1,11 +1,13 @@
 -- However the bytes are cut, and until a fault.
-use Rattle.std.proofs.Common.{◌≡◌, ℕ, List, ◌++◌, Bool, true, false, refl, sym, subst, ◌∙◌}
+use Rattle.std.proofs.Common.{◌≡◌, ℕ, List, ◌++◌, Bool, true, false, length, refl, sym, subst, ◌∙◌}
 use Rattle.std.specs.Prelude.{Result, Ok, Err}
 use Rattle.std.specs.Io.KnownBytes.{Keeps}
 use Rattle.std.proofs.KnownBytes.{Appends-kept}
 use Rattle.mr_data.specs.declared.given.Given.{Given}
 use Rattle.mr_node_output.specs.Outs.{no_output}
+use Rattle.mr_node.specs.Calls.{FeedRow}
 use Rattle.mr_node.specs.declared.fault.NodeFault.{NodeFault}
+use Rattle.mr_node_spec.specs.State.{NodeState}
 use Rattle.mr_pipe.specs.Outside.{Outside, Change, IsSettled}
 use Rattle.mr_pipe.specs.State.{PipeState}
 use Rattle.mr_pipe.specs.Sessions.{Gives, all_changes}
@@ -16,7 +18,7 @@ use Rattle.mr_pipe.specs.declared.fault.PipeFault.{PipeFault}
 use Rattle.mr_pipe.specs.declared.fault.PipeFault.TheVariants as fault
 use Rattle.mr_pipe.proofs.Serves.{serves_more, serves_join, more_moments, changes_join, changes_more}
 use Rattle.mr_pipe.proofs.Files.{settled_join, settled_kept, all_begun}
-use Rattle.mr_pipe.proofs.Goings.{refuses}
+use Rattle.mr_pipe.proofs.Refusals.{feed_refused}
 
 -- a fault in the step behind those that were served
 pub breaks : (g : Given) (s : PipeState) (u : List ℕ) (x : Outside) (p : LinkedNode) (y : Outside) (why : PipeFault) (z : Outside)
@@ -72,13 +74,13 @@ drained_join g s u x bytes t y q z d (Err why) n = record {
 }
 
 -- the bytes were refused
-pub not_fed : (g : Given) (s : PipeState) (u : List ℕ) (x : Outside) (bytes : List ℕ) (p : LinkedNode) (y : Outside) (e : NodeFault)
-    → Going g s u x p y → Breaks g s (u ++ bytes) x (fault_of e) y
-not_fed g s u x bytes p y e w = record {
+pub not_fed : (g : Given) (s : PipeState) (u : List ℕ) (x : Outside) (bytes : List ℕ) (p : LinkedNode) (y : Outside) (b : NodeState) (e : NodeFault)
+    → Going g s u x p y → FeedRow p.node p.link bytes (length bytes) b (Err e) → Breaks g s (u ++ bytes) x (fault_of e) y
+not_fed g s u x bytes p y b e w row = record {
   at = w.at;
   before = y;
   done = settles_more g s u x w.at y bytes w.done;
-  left = refuses e g w.at (w.done.rest ++ bytes) y;
+  left = feed_refused g w.at w.done.rest y p bytes b w.stands e row;
 }
 
 -- ---- a flush behind all

@@ -28,7 +28,7 @@ use Rattle.mr_pipe.specs.Outside.{Kept, Outside, Change, changed, followed, appe
 use Rattle.mr_pipe.specs.State.{PipeState}
 use Rattle.mr_pipe.specs.Sessions.{Moment, AreServed, Gives, IsServed, IsServedWithin, TakesRole, alone, changes_of, all_changes, frame_alone}
 use Rattle.mr_pipe.specs.Serving.{IsLeft, IsCutOff}
-use Rattle.mr_pipe.specs.Piped.{Answers}
+use Rattle.mr_pipe.specs.Piped.{Answers, Broken}
 use Rattle.mr_pipe.specs.Folding.{FoldsTorn, FilesFold, FilesFoldTorn, FilesStaySynced}
 use Rattle.mr_pipe.specs.declared.fault.PipeFault.{PipeFault}
 use Rattle.mr_pipe.specs.declared.fault.PipeFault.TheVariants as fault
@@ -229,8 +229,8 @@ gives_torn g s u out a b xs (Gives.ends last e out_is) h f t = torn_nothing (cha
 
 left_folds : (why : PipeFault) (g : Given) (s : PipeState) (u : List ℕ) (x y : Outside) (xs : List ℕ) → x.kept.told ≡ Some xs → MakesByGroups xs s.core.held → IsLeft why g s u x y → HasTorn y.kept
 left_folds fault.Read g s u x y xs h f l = (xs, (ap (λ (o : Outside). o.kept.told) l ∙ h, not_torn xs s.core.held f))
-left_folds fault.Stopped g s u x y xs h f l = (xs, (ap (λ (o : Outside). o.kept.told) l ∙ h, not_torn xs s.core.held f))
-left_folds fault.Memory g s u x y xs h f l = (xs, (ap (λ (o : Outside). o.kept.told) l ∙ h, not_torn xs s.core.held f))
+left_folds fault.Stopped g s u x y xs h f l = (xs, (ap (λ (o : Outside). o.kept.told) l.1 ∙ h, not_torn xs s.core.held f))
+left_folds fault.Memory g s u x y xs h f l = (xs, (ap (λ (o : Outside). o.kept.told) l.1 ∙ h, not_torn xs s.core.held f))
 left_folds fault.Write g s u x y xs h f (IsCutOff.in_reply out gives filed begun) =
     let more = gives_folds g s u out gives xs f in
     (followed (changes_of out) xs, (filed_told (changes_of out) x.kept y.kept xs filed h, not_torn (followed (changes_of out) xs) more.0 more.1))
@@ -247,11 +247,11 @@ files_fold g p before after x y s xs h f =
     answered said (Answers.at_close rest replies last served ends is) = all_fold g p s.read s.moments s.pipe rest replies served xs f
 
 pub files_fold_torn : FilesFoldTorn
-files_fold_torn g p before after x why y b xs h f =
-    let k = b.breaks in
+files_fold_torn g p before after x why y (Broken.unbegun is read same) xs h f = (xs, (ap (λ (o : Outside). o.kept.told) same ∙ h, not_torn xs p.core.held f))
+files_fold_torn g p before after x why y (Broken.amid read consumed k) xs h f =
     let s = k.done in
     let cs = all_changes s.moments in
-    left_folds why g k.at s.rest k.before y (followed cs xs) (filed_told cs x.kept k.before.kept xs s.settled.filed h) (all_fold g p b.read s.moments k.at s.rest s.said s.serves xs f) k.left
+    left_folds why g k.at s.rest k.before y (followed cs xs) (filed_told cs x.kept k.before.kept xs s.settled.filed h) (all_fold g p read s.moments k.at s.rest s.said s.serves xs f) k.left
 
 -- ---- how far the file is synced
 covered_always : (c : Change) (a b : Kept) → IsCovered Always c a b → IsSynced b.told b.synced

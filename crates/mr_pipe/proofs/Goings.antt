@@ -5,13 +5,10 @@ use Rattle.std.specs.Io.KnownBytes.{Appends}
 use Rattle.std.proofs.KnownBytes.{Appends-nil}
 use Rattle.mr_data.specs.declared.given.Given.{Given}
 use Rattle.mr_node_output.specs.Outs.{Output}
-use Rattle.mr_node.specs.declared.fault.NodeFault.{NodeFault}
-use Rattle.mr_node.specs.declared.fault.NodeFault.TheVariants as refused
 use Rattle.mr_pipe.specs.Outside.{Outside, Change, Filed, IsSettled}
 use Rattle.mr_pipe.specs.State.{PipeState, Stands}
 use Rattle.mr_pipe.specs.Sessions.{Moment, Gives, all_changes, changes_of}
 use Rattle.mr_pipe.specs.Serving.{Settles, Going, Drained, Ended, StepsOn, StepsLast, StepWaits, IsLeft, IsCutOff, IsCarriedOut}
-use Rattle.mr_pipe.specs.Faults.{fault_of}
 use Rattle.mr_pipe.specs.declared.linked_node.LinkedNode.{LinkedNode}
 use Rattle.mr_pipe.specs.declared.fault.PipeFault.{PipeFault}
 use Rattle.mr_pipe.specs.declared.fault.PipeFault.TheVariants as fault
@@ -25,13 +22,6 @@ left_out fault.File g s u x y out gave h = record { out = out; gives = gave; tor
 left_out fault.Read g s u x y out gave h = absurd h
 left_out fault.Stopped g s u x y out gave h = absurd h
 left_out fault.Memory g s u x y out gave h = absurd h
-
--- a refusal of the node leaves nothing
-pub refuses : (e : NodeFault) (g : Given) (s : PipeState) (u : List ℕ) (x : Outside) → IsLeft (fault_of e) g s u x x
-refuses refused.Stopped g s u x = refl
-refuses refused.Memory g s u x = refl
-refuses refused.InputFull g s u x = refl
-refuses refused.NoLink g s u x = refl
 
 -- nothing was served yet
 abbrev pub starts : (g : Given) (s : PipeState) (u : List ℕ) (x : Outside) (p : LinkedNode) → Stands p s u → Going g s u x p x

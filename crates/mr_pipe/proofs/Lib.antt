@@ -1,6 +1,7 @@
 pub mod Serves
 pub mod Files
 pub mod Steps
+pub mod Refusals
 pub mod Goings
 pub mod Deliveries
 pub mod Relaying

@@ -1,12 +1,13 @@
 -- One read after another.
-use Rattle.std.proofs.Common.{rules, ◌≡◌, ℕ, List, [], ◌∷◌, ◌++◌, true, false, Option, refl, sym, ap, subst, ◌∙◌, inl, inr, lit<, Ok, Err, Result, arith}
-use Rattle.std.specs.Prelude.{◌⊎◌, take, Some, IsErrOf}
+use Rattle.std.proofs.Common.{◌≡◌, ℕ, List, [], ◌∷◌, ◌++◌, true, false, Option, ◌-◌, ◌<◌, length, min, refl, sym, ap, subst, ◌∙◌, inl, inr, Ok, Err, Result, arith}
+use Rattle.std.specs.Prelude.{◌⊎◌, take, Some, IsErrOf, unwrap_or}
 use Rattle.mr_file.specs.LogFile.{Rose}
 use Rattle.std.specs.Io.KnownBytes.{Consumes, Keeps}
-use Rattle.std.proofs.KnownBytes.{Consumes-nil, Consumes-kept, Consumes-trans, Appends-trans}
+use Rattle.std.proofs.KnownBytes.{Consumes-nil, Consumes-kept, Consumes-trans, Appends-trans, Keeps-refl}
 use Rattle.mr_data.specs.declared.given.Given.{Given}
-use Rattle.mr_node_spec.specs.Requests.{Waits}
 use Rattle.mr_pipe.specs.Outside.{Kept, Outside, Change, Filed}
+use Rattle.mr_node_links.specs.State.{full}
+use Rattle.mr_node_spec.specs.State.{room_of}
 use Rattle.mr_pipe.specs.State.{PipeState, Stands}
 use Rattle.mr_pipe.specs.Sessions.{all_changes}
 use Rattle.mr_pipe.specs.Serving.{Drained, Breaks, IsLeft, Tears, IsDrained}
@@ -18,12 +19,8 @@ use Rattle.mr_pipe.specs.declared.fault.PipeFault.TheVariants as fault
 use Rattle.mr_pipe.specs.declared.relay.Round.{Round}
 use Rattle.mr_pipe.specs.declared.relay.Round.TheVariants as round
 use Rattle.mr_pipe.proofs.Serves.{append_nil}
-use Rattle.mr_pipe.proofs.Files.{nothing_settled}
 use Rattle.mr_pipe.proofs.Goings.{starts}
-
--- a request may follow nothing
-pub waits_nothing : Waits []
-waits_nothing = record { more = record { more = 42 ∷ 45 ∷ 49 ∷ 13 ∷ 10 ∷ []; some = lit< tt; are_bytes = search rules; whole = inr (inl (inr refl)) } }
+use Rattle.mr_pipe.proofs.Refusals.{waits_nothing, has_room}
 
 -- nothing was read yet
 pub no_round : (g : Given) (s : PipeState) (x : Outside) (b : Option (List ℕ)) (p : LinkedNode) → Stands p s [] → Relays g s [] x b b p x
@@ -70,19 +67,15 @@ session_close g s x b e z n =
     }
 
 pub session_break : (g : Given) (s : PipeState) (x : Outside) (b e : Option (List ℕ)) (why : PipeFault) (z : Outside) → RelaysBreak g s [] x b e why z → Broken g s b e x why z
-session_break g s x b e why z n = record { read = n.read; consumed = n.consumed; breaks = n.breaks }
+session_break g s x b e why z n = Broken.amid n.read n.consumed n.breaks
 
 -- after all turns
 pub session_stop : (g : Given) (s : PipeState) (x : Outside) (b e : Option (List ℕ)) (q : LinkedNode) (z : Outside) → Relays g s [] x b e q z → Broken g s b e x fault.Read z
-session_stop g s x b e q z n = record { read = n.read; consumed = n.consumed; breaks = record { at = n.drained.going.at; before = z; done = n.drained.going.done; left = refl } }
+session_stop g s x b e q z n = Broken.amid n.read n.consumed (record { at = n.drained.going.at; before = z; done = n.drained.going.done; left = refl })
 
 -- no session began
-pub no_session : (g : Given) (s : PipeState) (x : Outside) (b : Option (List ℕ)) (why : PipeFault) → ((u : List ℕ) → IsLeft why g s u x x) → Broken g s b b x why x
-no_session g s x b why h = record {
-  read = [];
-  consumed = Consumes-nil b;
-  breaks = record { at = s; before = x; done = record { moments = []; rest = []; said = []; serves = (refl, refl, refl); settled = nothing_settled x }; left = h [] };
-}
+pub no_session : (g : Given) (s : PipeState) (x : Outside) (b : Option (List ℕ)) (why : PipeFault) → why ≡ fault.Memory → Broken g s b b x why x
+no_session g s x b why is = Broken.unbegun is (Consumes-nil b) refl
 
 -- ---- one round
 -- nothing more was read
@@ -94,17 +87,25 @@ no_more g s u x b e p y d k = record {
 }
 
 -- .. and a fault came, which leaves nothing
-pub broken_round : (g : Given) (s : PipeState) (u : List ℕ) (x : Outside) (b e : Option (List ℕ)) (p : LinkedNode) (y : Outside) (why : PipeFault) → Drained g s u x p y → Keeps b e
-    → ((t : PipeState) (v : List ℕ) → IsLeft why g t v y y) → RelaysBreak g s u x b e why y
+broken_round : (g : Given) (s : PipeState) (u : List ℕ) (x : Outside) (b e : Option (List ℕ)) (p : LinkedNode) (y : Outside) (why : PipeFault) → (d : Drained g s u x p y) → Keeps b e
+    → IsLeft why g d.going.at d.going.done.rest y y → RelaysBreak g s u x b e why y
 broken_round g s u x b e p y why d k h = record {
   read = [];
   consumed = Consumes-kept b b e [] (Consumes-nil b) k;
-  breaks = subst (λ z. Breaks g s z x why y) (sym (append_nil u)) (record { at = d.going.at; before = y; done = d.going.done; left = h d.going.at d.going.done.rest });
+  breaks = subst (λ z. Breaks g s z x why y) (sym (append_nil u)) (record { at = d.going.at; before = y; done = d.going.done; left = h });
 }
+
+-- .. as the node takes no bytes more, though a piece of some may be read
+pub no_room : (g : Given) (s : PipeState) (u : List ℕ) (x : Outside) (b : Option (List ℕ)) (p : LinkedNode) (y : Outside) → (d : Drained g s u x p y) → (piece : ℕ) → 0 < piece
+    → min (unwrap_or (room_of p.node p.link) 0) piece ≡ 0 → RelaysBreak g s u x b b fault.Memory y
+no_room g s u x b p y d piece some none =
+    let v = d.going.done.rest in
+    let room : min (full - length v) piece ≡ 0 = ap (λ o. min (unwrap_or o 0) piece) (sym (has_room p d.going.at v d.going.stands)) ∙ none in
+    broken_round g s u x b b p y fault.Memory d (Keeps-refl b) ((λ is. omega (arith, room, some, ap length is)), refl)
 
 pub read_failed : (g : Given) (s : PipeState) (u : List ℕ) (x : Outside) (b e : Option (List ℕ)) (p : LinkedNode) (y : Outside) (why : PipeFault) → why ≡ fault.Read → Drained g s u x p y → Keeps b e
     → RelaysBreak g s u x b e why y
-read_failed g s u x b e p y why is d k = subst (λ w. RelaysBreak g s u x b e w y) (sym is) (broken_round g s u x b e p y fault.Read d k (λ t v. refl))
+read_failed g s u x b e p y why is d k = subst (λ w. RelaysBreak g s u x b e w y) (sym is) (broken_round g s u x b e p y fault.Read d k refl)
 
 -- bytes were read, and served
 pub delivered : (g : Given) (s : PipeState) (u : List ℕ) (x : Outside) (b e : Option (List ℕ)) (bytes : List ℕ) (q : LinkedNode) (z : Outside) → Consumes b e bytes → IsDrained g s (u ++ bytes) x q z (Ok true)
@@ -130,11 +131,6 @@ at_end_round g s u x b e p y buffer n none r d = record {
   };
   at_end = r.2 none;
 }
-
--- the node did not begin
-pub not_begun : (g : Given) (s : PipeState) (x : Outside) (b : Option (List ℕ)) (why : PipeFault) → (why ≡ fault.Memory) ⊎ (why ≡ fault.Stopped) → Broken g s b b x why x
-not_begun g s x b why (inl is) = subst (λ w. Broken g s b b x w x) (sym is) (no_session g s x b fault.Memory (λ u. refl))
-not_begun g s x b why (inr is) = subst (λ w. Broken g s b b x w x) (sym is) (no_session g s x b fault.Stopped (λ u. refl))
 
 -- ---- where there is no file
 pub is_alone : (k : Kept) → k.told ≡ no_file.told → k.synced ≡ no_file.synced → k.failures ≡ 0 → k.mode ≡ no_file.mode → k.broken ≡ false → k ≡ no_file
@@ -166,6 +162,6 @@ err_is w v e = cc
 
 pub never_fails : (g : Given) (c : PipeState) (p q : Option (List ℕ)) (x y : Outside) (r : Result (Unit {0}) PipeFault) → x.kept.broken ≡ false → y.kept.failures ≡ 0 → IsPiped g c p q x y r → IsErrOf r fault.File → ⊥
 never_fails g c p q x y (Ok u) sound none h e = let wrong : ◌≡◌ {A = Result (Unit {0}) PipeFault} (Ok u) (Err fault.File) = e in cc
-never_fails g c p q x y (Err why) sound none h e =
-    let k = h.breaks in
+never_fails g c p q x y (Err why) sound none (Broken.unbegun is read same) e = let wrong : fault.Memory ≡ fault.File = sym is ∙ err_is why fault.File e in cc
+never_fails g c p q x y (Err why) sound none (Broken.amid read consumed k) e =
     no_tear g k.at k.done.rest k.before y (stays_sound (all_changes k.done.moments) x.kept k.before.kept k.done.settled.filed sound) none (subst (λ w. IsLeft w g k.at k.done.rest k.before y) (err_is why fault.File e) k.left)

@@ -21,12 +21,12 @@ use Rattle.mr_commands.proofs.Doing.{do_so}
 use Rattle.mr_node_links.specs.State.{Transaction, begun, streams}
 use Rattle.mr_node_links.specs.State.EndState.{client}
 use Rattle.mr_node_links.specs.Replicas.{Lists, is_named}
-use Rattle.mr_node_output.specs.Outs.{OutsState, no_output}
+use Rattle.mr_node_output.specs.Outs.{OutsState, Output, no_output}
 use Rattle.mr_repl.specs.Backlog.{usual_backlog}
 use Rattle.mr_node_spec.specs.State.{Core, NodeState, Agrees, AgreesWithin, ReplicaAgrees, end_of, started}
 use Rattle.mr_node_spec.specs.Ends.{names_of}
 use Rattle.mr_node_spec.specs.Telling.{Around, IsAround, answer_about, link_of}
-use Rattle.mr_node_spec.specs.Served.{Served}
+use Rattle.mr_node_spec.specs.Served.{Answered, Served}
 use Rattle.mr_node_spec.specs.ClientRows.{ClientRow, Idles, IsAnswerToPsync}
 use Rattle.mr_node_spec.specs.Transactions.{StandsBy, DropsBy, WithinRow, frame_of}
 use Rattle.mr_node_spec.specs.ReplicaRows.{ReplicaRow}
@@ -61,13 +61,13 @@ clients s held u k n = ap (λ b. Some (end_as b s.transaction u)) k ∙ ap (λ o
 replicas : (s : PipeState) (u : List ℕ) → s.replica ≡ true → Some (end_as s.replica s.transaction u) ≡ Some (end_as true s.transaction u)
 replicas s u k = ap (λ b. Some (end_as b s.transaction u)) k
 
-at_client : (p : LinkedNode) (s : PipeState) (u : List ℕ) → Stands p s u → s.replica ≡ false → s.transaction ≡ None → Agrees p.node p.link u
+pub at_client : (p : LinkedNode) (s : PipeState) (u : List ℕ) → Stands p s u → s.replica ≡ false → s.transaction ≡ None → Agrees p.node p.link u
 at_client p s u h k n = record { is = h.end ∙ clients s None u k n }
 
-at_waiting : (p : LinkedNode) (s : PipeState) (held : Transaction) (u : List ℕ) → Stands p s u → s.replica ≡ false → s.transaction ≡ Some held → AgreesWithin p.node p.link held u
+pub at_waiting : (p : LinkedNode) (s : PipeState) (held : Transaction) (u : List ℕ) → Stands p s u → s.replica ≡ false → s.transaction ≡ Some held → AgreesWithin p.node p.link held u
 at_waiting p s held u h k n = record { is = h.end ∙ clients s (Some held) u k n }
 
-at_replica : (p : LinkedNode) (s : PipeState) (u : List ℕ) → Stands p s u → s.replica ≡ true → ReplicaAgrees p.node p.link u
+pub at_replica : (p : LinkedNode) (s : PipeState) (u : List ℕ) → Stands p s u → s.replica ≡ true → ReplicaAgrees p.node p.link u
 at_replica p s u h k = record { is = h.end ∙ replicas s u k }
 
 -- ---- nobody is sent the stream where the link is a client's
@@ -102,6 +102,18 @@ is_alone p s u around h k is =
     let apart : around.link ≡ alone.link = is.link ∙ ap link_of h.follow in
     λ i. record { replicas = few i; link = apart i }
 
+-- ---- what is served leaves the node up
+answered_up : (c : Core) (around : Around) (words : List (List ℕ)) (g : Given) (d : Core) (out : Output) → Answered c around words g d out → d.up ≡ c.up
+answered_up c around words g d out (Answered.within plain reply effects plan le d_is out_is) = ap (λ (z : Core). z.up) d_is
+answered_up c around words g d out (Answered.beyond plain reply effects plan lt d_is out_is) = ap (λ (z : Core). z.up) d_is
+answered_up c around words g d out (Answered.rewritten is remakes d_is out_is) = ap (λ (z : Core). z.up) d_is
+answered_up c around words g d out (Answered.tells question asked d_is out_is) = ap (λ (z : Core). z.up) d_is
+answered_up c around words g d out (Answered.keeps_role wish asked quiet d_is) = ap (λ (z : Core). z.up) d_is
+
+served_up : (c : Core) (around : Around) (u : List ℕ) (g : Given) (d : Core) (rest : List ℕ) (out : Output) → Served c around u g d rest out → d.up ≡ c.up
+served_up c around u g d rest out (Served.request words asks answered) = answered_up c around words g d out answered
+served_up c around u g d rest out (Served.nothing asks d_is out_is) = ap (λ (z : Core). z.up) d_is
+
 -- ---- what a row comes to
 -- A step goes on, or was the last.
 pub data Goes (g : Given) (s : PipeState) (u : List ℕ) (q : LinkedNode) (outs : OutsState) : Type 0 where
@@ -113,9 +125,10 @@ abbrev pub behind : LinkedNode → NodeState → OutsState → LinkedNode
 behind p b outs = record { node = b; link = p.link; used = counted outs.used p.used }
 
 -- .. stands where the row leaves it
-left : (p : LinkedNode) (s t : PipeState) (u rest : List ℕ) (b : NodeState) (outs : OutsState) → Stands p s u → b.core ≡ t.core → end_of b p.link ≡ Some (end_as t.replica t.transaction rest)
+left : (p : LinkedNode) (s t : PipeState) (u rest : List ℕ) (b : NodeState) (outs : OutsState) → Stands p s u → t.core.up ≡ s.core.up → b.core ≡ t.core → end_of b p.link ≡ Some (end_as t.replica t.transaction rest)
     → ((x : LinkId) → x ≢ p.link → end_of b x ≡ end_of p.node x) → b.follow ≡ None → counted outs.used p.used ≡ min t.used most_numbered → Stands (behind p b outs) t rest
-left p s t u rest b outs h core end others follow used = record {
+left p s t u rest b outs h up core end others follow used = record {
+  up = up ∙ h.up;
   core = core;
   end = end;
   alone = λ x ne. others x ne ∙ h.alone x ne;
@@ -141,7 +154,7 @@ client_goes g s u p b outs h k n (ClientRow.serves r) =
     (subst (λ (c : Core). Served c r.around u g b.core r.rest r.out) h.core r.served) in
     Goes.on (ap is_last r.outs_are) t r.rest
     (subst (λ (o : OutsState). IsServed g s u t r.rest (output_of o)) (sym r.outs_are) (IsServed.serves k n b.core served refl))
-    (left p s t u r.rest b outs h refl (r.leaves.is ∙ sym (clients s None r.rest k n)) r.leaves.others.stay (r.leaves.follow ∙ h.follow) (uncounted p s u outs h (ap (λ (o : OutsState). o.used) r.outs_are)))
+    (left p s t u r.rest b outs h (served_up s.core alone u g b.core r.rest r.out served) refl (r.leaves.is ∙ sym (clients s None r.rest k n)) r.leaves.others.stay (r.leaves.follow ∙ h.follow) (uncounted p s u outs h (ap (λ (o : OutsState). o.used) r.outs_are)))
 client_goes g s u p b outs h k n (ClientRow.closes r) = Goes.last (ap is_last r.outs_are) r.last (IsLast.closes k r.ends) (ap output_of r.outs_are)
 client_goes g s u p b outs h k n (ClientRow.halts r) = Goes.last (ap is_last r.outs_are) [] (IsLast.halts k n r.rest r.asks refl) (ap output_of r.outs_are)
 client_goes g s u p b outs h k n (ClientRow.synchronizes r) =
@@ -149,7 +162,7 @@ client_goes g s u p b outs h k n (ClientRow.synchronizes r) =
     Goes.on (ap is_last r.outs_are) t r.rest
     (IsServed.takes_role k n r.words r.asks (TakesRole.synchronizes r.id r.wanted r.text (sym (ap (λ (c : Core). c.master) h.core) ∙ r.master) r.wish
     (subst (λ (c : Core). IsAnswerToPsync c.lineage c.held r.id r.wanted r.text) h.core r.answer) refl (ap output_of r.outs_are)))
-    (left p s t u r.rest b outs h (r.core ∙ h.core) r.leaves.is r.leaves.others.stay (r.leaves.follow ∙ h.follow) (uncounted p s u outs h (ap (λ (o : OutsState). o.used) r.outs_are)))
+    (left p s t u r.rest b outs h refl (r.core ∙ h.core) r.leaves.is r.leaves.others.stay (r.leaves.follow ∙ h.follow) (uncounted p s u outs h (ap (λ (o : OutsState). o.used) r.outs_are)))
 client_goes g s u p b outs h k n (ClientRow.promotes r) =
     let c = s.core in
     let t : PipeState = record s { core = record c { master = true; offers = true; upstream = None; mark = None; lineage = renamed (fresh_id s.used) c.lineage }; used = s.used + 1 } in
@@ -158,25 +171,25 @@ client_goes g s u p b outs h k n (ClientRow.promotes r) =
     ∙ ap (λ id. record c { master = true; offers = true; upstream = None; mark = None; lineage = renamed id c.lineage }) (same_fresh p s u h)) in
     Goes.on (ap is_last r.outs_are) t r.rest
     (IsServed.takes_role k n r.words r.asks (TakesRole.promotes (sym (ap (λ (z : Core). z.master) h.core) ∙ r.replica) r.wish refl (ap output_of r.outs_are)))
-    (left p s t u r.rest b outs h core (r.ends.is ∙ sym (clients s None r.rest k n)) (λ x ne. r.ends.others x ne (ap (λ f. is_named (names_of (name_of f)) x) h.follow)) r.follow
+    (left p s t u r.rest b outs h refl core (r.ends.is ∙ sym (clients s None r.rest k n)) (λ x ne. r.ends.others x ne (ap (λ f. is_named (names_of (name_of f)) x) h.follow)) r.follow
     (ap (λ (o : OutsState). counted o.used p.used) r.outs_are ∙ (ap (λ m. min (m + 1) most_numbered) h.used ∙ same_number s.used)))
 client_goes g s u p b outs h k n (ClientRow.turns r) =
     let t : PipeState = record s { core = record s.core { upstream = Some r.address } } in
     Goes.on (ap is_last r.outs_are) t r.rest
     (IsServed.takes_role k n r.words r.asks (TakesRole.turns r.address (sym (ap (λ (z : Core). z.master) h.core) ∙ r.replica) r.wish (λ e. r.another (ap (λ (z : Core). z.upstream) h.core ∙ e)) refl (ap output_of r.outs_are)))
-    (left p s t u r.rest b outs h (r.core ∙ ap (λ (z : Core). record z { upstream = Some r.address }) h.core) (r.ends.is ∙ sym (clients s None r.rest k n))
+    (left p s t u r.rest b outs h refl (r.core ∙ ap (λ (z : Core). record z { upstream = Some r.address }) h.core) (r.ends.is ∙ sym (clients s None r.rest k n))
     (λ x ne. r.ends.others x ne (ap (λ f. is_named (names_of (name_of f)) x) h.follow)) r.follow (uncounted p s u outs h (ap (λ (o : OutsState). o.used) r.outs_are)))
 client_goes g s u p b outs h k n (ClientRow.begins r) =
     let t : PipeState = record s { transaction = Some begun } in
     Goes.on (ap is_last r.outs_are) t r.rest
     (IsServed.begins k n r.words r.asks r.wish refl (ap output_of r.outs_are))
-    (left p s t u r.rest b outs h (r.core ∙ h.core) (r.leaves.is ∙ ap (λ z. Some (end_as z (Some begun) r.rest)) (sym k)) r.leaves.others.stay (r.leaves.follow ∙ h.follow) (uncounted p s u outs h (ap (λ (o : OutsState). o.used) r.outs_are)))
+    (left p s t u r.rest b outs h refl (r.core ∙ h.core) (r.leaves.is ∙ ap (λ z. Some (end_as z (Some begun) r.rest)) (sym k)) r.leaves.others.stay (r.leaves.follow ∙ h.follow) (uncounted p s u outs h (ap (λ (o : OutsState). o.used) r.outs_are)))
 client_goes g s u p b outs h k n (ClientRow.demotes r) =
     let t : PipeState = record s { core = record s.core { master = false; offers = true; upstream = Some r.address; mark = None } } in
     let none : outs.closed ≡ [] = none_listed p s u outs.closed h k r.closed in
     Goes.on (ap is_last r.outs_are) t r.rest
     (IsServed.takes_role k n r.words r.asks (TakesRole.demotes r.address (sym (ap (λ (z : Core). z.master) h.core) ∙ r.master) r.wish refl (ap output_of r.outs_are)))
-    (left p s t u r.rest b outs h (r.core ∙ ap (λ (z : Core). record z { master = false; offers = true; upstream = Some r.address; mark = None }) h.core) (r.ends.is ∙ sym (clients s None r.rest k n))
+    (left p s t u r.rest b outs h refl (r.core ∙ ap (λ (z : Core). record z { master = false; offers = true; upstream = Some r.address; mark = None }) h.core) (r.ends.is ∙ sym (clients s None r.rest k n))
     (λ x ne. r.ends.others x ne (ap (λ names. is_named names x) none)) r.follow (uncounted p s u outs h (ap (λ (o : OutsState). o.used) r.outs_are)))
 
 -- what waited is done here as at the node: nobody else is about
@@ -194,17 +207,17 @@ within_goes g s held u p b outs h k n (WithinRow.stands r) =
     Goes.on (ap is_last r.outs_are) t r.rest
     (IsServed.goes_within k held n (IsServedWithin.stands r.words r.asks r.next r.reply
     (subst (λ (c : Core). StandsBy (coming (not c.master) r.words) r.asks.text held r.next r.reply) h.core r.stands) refl (ap output_of r.outs_are)))
-    (left p s t u r.rest b outs h (r.core ∙ h.core) (r.leaves.is ∙ ap (λ z. Some (end_as z (Some r.next) r.rest)) (sym k)) r.leaves.others.stay (r.leaves.follow ∙ h.follow) (uncounted p s u outs h (ap (λ (o : OutsState). o.used) r.outs_are)))
+    (left p s t u r.rest b outs h refl (r.core ∙ h.core) (r.leaves.is ∙ ap (λ z. Some (end_as z (Some r.next) r.rest)) (sym k)) r.leaves.others.stay (r.leaves.follow ∙ h.follow) (uncounted p s u outs h (ap (λ (o : OutsState). o.used) r.outs_are)))
 within_goes g s held u p b outs h k n (WithinRow.passes r) =
     Goes.on (ap is_last r.outs_are) s r.rest
     (IsServed.goes_within k held n (IsServedWithin.passes r.asks refl (ap output_of r.outs_are)))
-    (left p s s u r.rest b outs h (r.core ∙ h.core) (r.leaves.is ∙ sym (clients s (Some held) r.rest k n)) r.leaves.others.stay (r.leaves.follow ∙ h.follow) (uncounted p s u outs h (ap (λ (o : OutsState). o.used) r.outs_are)))
+    (left p s s u r.rest b outs h refl (r.core ∙ h.core) (r.leaves.is ∙ sym (clients s (Some held) r.rest k n)) r.leaves.others.stay (r.leaves.follow ∙ h.follow) (uncounted p s u outs h (ap (λ (o : OutsState). o.used) r.outs_are)))
 within_goes g s held u p b outs h k n (WithinRow.drops r) =
     let t : PipeState = record s { transaction = None } in
     Goes.on (ap is_last r.outs_are) t r.rest
     (IsServed.goes_within k held n (IsServedWithin.drops r.words r.asks r.reply
     (subst (λ (c : Core). DropsBy (coming (not c.master) r.words) held r.reply) h.core r.drops) refl (ap output_of r.outs_are)))
-    (left p s t u r.rest b outs h (r.core ∙ h.core) (r.leaves.is ∙ ap (λ z. Some (end_as z None r.rest)) (sym k)) r.leaves.others.stay (r.leaves.follow ∙ h.follow) (uncounted p s u outs h (ap (λ (o : OutsState). o.used) r.outs_are)))
+    (left p s t u r.rest b outs h refl (r.core ∙ h.core) (r.leaves.is ∙ ap (λ z. Some (end_as z None r.rest)) (sym k)) r.leaves.others.stay (r.leaves.follow ∙ h.follow) (uncounted p s u outs h (ap (λ (o : OutsState). o.used) r.outs_are)))
 within_goes g s held u p b outs h k n (WithinRow.executes r) =
     let c = s.core in
     let t : PipeState = record s { core = record c { held = r.held; lineage = grown c.lineage (grown_text r.effects) }; transaction = None } in
@@ -212,13 +225,13 @@ within_goes g s held u p b outs h k n (WithinRow.executes r) =
     Goes.on (ap is_last r.outs_are) t r.rest
     (IsServed.goes_within k held n (IsServedWithin.executes r.words r.asks (ap (λ (z : Core). coming (not z.master) r.words) (sym h.core) ∙ r.runs) r.whole r.replies r.effects r.held
     (done_alone g s u p held.queued r.replies r.effects r.held h k r.does) refl (ap output_of r.outs_are)))
-    (left p s t u r.rest b outs h core (r.leaves.is ∙ ap (λ z. Some (end_as z None r.rest)) (sym k)) r.leaves.others.stay (r.leaves.follow ∙ h.follow) (uncounted p s u outs h (ap (λ (o : OutsState). o.used) r.outs_are)))
+    (left p s t u r.rest b outs h refl core (r.leaves.is ∙ ap (λ z. Some (end_as z None r.rest)) (sym k)) r.leaves.others.stay (r.leaves.follow ∙ h.follow) (uncounted p s u outs h (ap (λ (o : OutsState). o.used) r.outs_are)))
 within_goes g s held u p b outs h k n (WithinRow.closes r) = Goes.last (ap is_last r.outs_are) r.last (IsLast.closes k r.ends) (ap output_of r.outs_are)
 
 replica_goes : (g : Given) (s : PipeState) (u : List ℕ) (p : LinkedNode) (b : NodeState) (outs : OutsState) → Stands p s u → s.replica ≡ true → ReplicaRow p.node p.link u b outs → Goes g s u (behind p b outs) outs
 replica_goes g s u p b outs h k (ReplicaRow.notes r) =
     Goes.on (ap is_last r.outs_are) s r.rest (IsServed.notes k r.expected refl (ap output_of r.outs_are))
-    (left p s s u r.rest b outs h (r.core ∙ h.core) (r.leaves.is ∙ sym (replicas s r.rest k)) r.leaves.others.stay (r.leaves.follow ∙ h.follow) (uncounted p s u outs h (ap (λ (o : OutsState). o.used) r.outs_are)))
+    (left p s s u r.rest b outs h refl (r.core ∙ h.core) (r.leaves.is ∙ sym (replicas s r.rest k)) r.leaves.others.stay (r.leaves.follow ∙ h.follow) (uncounted p s u outs h (ap (λ (o : OutsState). o.used) r.outs_are)))
 replica_goes g s u p b outs h k (ReplicaRow.parts r) = Goes.last (ap is_last r.outs_are) [] (IsLast.parts k r.unwanted refl) (ap output_of r.outs_are)
 
 -- ---- what a step comes to
@@ -282,6 +295,7 @@ gives g s u q outs (Goes.last none told ends is) = Gives.ends told ends is
 -- bytes came
 pub hears : (p : LinkedNode) (s : PipeState) (u bytes : List ℕ) (b : NodeState) → Stands p s u → Feeds p.node p.link bytes b → Stands (record p { node = b }) s (u ++ bytes)
 hears p s u bytes b h f = record {
+  up = h.up;
   core = f.core ∙ h.core;
   end = elim s.replica as (λ v. s.replica ≡ v → end_of b p.link ≡ Some (end_as s.replica s.transaction (u ++ bytes))) [
     | true ↦ λ k. (f.at_replica u (at_replica p s u h k)).is ∙ sym (replicas s (u ++ bytes) k)
@@ -298,6 +312,7 @@ hears p s u bytes b h f = record {
 -- a link was opened
 pub opened : (a b : NodeState) (l : LinkId) (id : List ℕ) (held : Dataset) → a ≡ started false 0 usual_backlog id held → Opens a l b → Stands (record { node = b; link = l; used = 0 }) (begun_with id held) []
 opened a b l id held is o = record {
+  up = refl;
   core = ap (λ (z : NodeState). z.core) o.node ∙ ap (λ (z : NodeState). z.core) is;
   end = o.agrees.is;
   alone = λ x ne. ap (λ (z : NodeState). end_of z x) o.node ∙ (get_other a.ends.open_links l (client []) x ne ∙ (ap (λ (z : NodeState). end_of z x) is ∙ get-empty id_cmp x));

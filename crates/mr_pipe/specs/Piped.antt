@@ -1,5 +1,5 @@
 -- A whole input, answered.
-use Rattle.std.specs.Prelude.{◌≡◌, ℕ, List, ◌++◌, Option, None, false, Result, Ok, Err}
+use Rattle.std.specs.Prelude.{◌≡◌, ℕ, List, [], ◌++◌, Option, None, false, Result, Ok, Err}
 use Rattle.std.specs.FinMap.{empty}
 use Rattle.std.specs.Io.KnownBytes.{Consumes, IsAtEnd}
 use Rattle.mr_file.specs.declared.sync_mode.SyncMode.TheVariants.{No}
@@ -14,6 +14,7 @@ use Rattle.mr_pipe.specs.Sessions.{Moment, AreServed, IsLast, all_changes}
 use Rattle.mr_pipe.specs.Serving.{Drained, Ended, Breaks}
 use Rattle.mr_pipe.specs.declared.linked_node.LinkedNode.{LinkedNode}
 use Rattle.mr_pipe.specs.declared.fault.PipeFault.{PipeFault}
+use Rattle.mr_pipe.specs.declared.fault.PipeFault.TheVariants as fault
 use Rattle.mr_pipe.specs.declared.relay.Round.{Round}
 use Rattle.mr_pipe.specs.declared.relay.Round.TheVariants as round
 
@@ -48,11 +49,10 @@ pub record Session (g : Given) (s : PipeState) (before after : Option (List ℕ)
   pub answers : Answers g s read moments pipe said after
   pub settled : IsSettled x y (all_changes moments) said
 
--- .. or of a beginning of one, until a fault came.
-pub record Broken (g : Given) (s : PipeState) (before after : Option (List ℕ)) (x : Outside) (why : PipeFault) (y : Outside) : Type 0 where
-  pub read : List ℕ
-  pub consumed : Consumes before after read
-  pub breaks : Breaks g s read x why y
+-- .. or of a beginning of one, until a fault came; or there was no memory to begin, and nothing was read.
+pub data Broken (g : Given) (s : PipeState) (before after : Option (List ℕ)) (x : Outside) (why : PipeFault) (y : Outside) : Type 0 where
+  amid : (read : List ℕ) → Consumes before after read → Breaks g s read x why y → Broken g s before after x why y
+  unbegun : why ≡ fault.Memory → Consumes before after [] → y ≡ x → Broken g s before after x why y
 
 abbrev pub IsPiped : Given → PipeState → Option (List ℕ) → Option (List ℕ) → Outside → Outside → Result (Unit {0}) PipeFault → Type 0
 IsPiped g s before after x y (Ok _) = Session g s before after x y

@@ -1,9 +1,12 @@
 -- A link that is served, and what was written for it.
-use Rattle.std.specs.Prelude.{◌≡◌, ℕ, List, Bool, true, false, Result, Ok, Err}
+use Rattle.std.specs.Prelude.{◌≡◌, ◌≢◌, ℕ, List, [], Bool, true, false, Some, None, Result, Ok, Err}
 use Rattle.std.specs.Io.KnownBytes.{Appends, Keeps}
 use Rattle.mr_data.specs.declared.given.Given.{Given}
 use Rattle.mr_node_output.specs.Outs.{Output, no_output}
+use Rattle.mr_node_links.specs.State.{Transaction}
+use Rattle.mr_node_spec.specs.ClientRows.{Stops}
 use Rattle.mr_node_spec.specs.Requests.{Waits}
+use Rattle.mr_node_spec.specs.Transactions.{StopsWithin}
 use Rattle.mr_pipe.specs.Outside.{Outside, Filed, IsTorn, IsBegun, IsSettled}
 use Rattle.mr_pipe.specs.State.{PipeState, Stands}
 use Rattle.mr_pipe.specs.Sessions.{Moment, AreServed, Gives, IsLast, IsServed, all_changes, changes_of}
@@ -56,13 +59,20 @@ pub record Tears (g : Given) (s : PipeState) (u : List ℕ) (x y : Outside) : Ty
   pub torn : IsTorn x.kept y.kept (changes_of out)
   pub output : y.output ≡ x.output
 
--- what a fault leaves of the step in which it came. Only one of the file or of the output leaves anything
+-- A node that stands so stops for want of memory at the first request, of which it had begun to apply effects: the client's, or where a transaction is
+-- open one that ends it and has what waited done.
+pub data RunsOut (g : Given) (s : PipeState) (u : List ℕ) : Type 0 where
+  at_request : s.replica ≡ false → s.transaction ≡ None → (p : LinkedNode) → Stands p s u → Stops p.node u g → RunsOut g s u
+  within : s.replica ≡ false → (held : Transaction) → s.transaction ≡ Some held → (p : LinkedNode) → Stands p s u → StopsWithin p.node held u g → RunsOut g s u
+
+-- What a fault leaves of the step in which it came, at the front of these unread bytes. Only one of the file or of the output leaves anything. A node
+-- stops only where it runs out of memory within effects, and memory is lacking for none but unread bytes.
 abbrev pub IsLeft : PipeFault → Given → PipeState → List ℕ → Outside → Outside → Type 0
 IsLeft fault.Read g s u x y = y ≡ x
 IsLeft fault.Write g s u x y = IsCutOff g s u x y
 IsLeft fault.File g s u x y = Tears g s u x y
-IsLeft fault.Stopped g s u x y = y ≡ x
-IsLeft fault.Memory g s u x y = y ≡ x
+IsLeft fault.Stopped g s u x y = RunsOut g s u × (y ≡ x)
+IsLeft fault.Memory g s u x y = (u ≢ []) × (y ≡ x)
 
 -- Of the bytes u requests were served, until a fault came.
 pub record Breaks (g : Given) (s : PipeState) (u : List ℕ) (x : Outside) (why : PipeFault) (y : Outside) : Type 0 where

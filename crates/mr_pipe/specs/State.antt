@@ -32,8 +32,9 @@ end_as true held unread = replica unread
 end_as false None unread = client unread
 end_as false (Some t) unread = waiting t unread
 
--- The node has one link, with these unread bytes, and the link to a master isn't there.
+-- The node runs and has one link, with these unread bytes, and the link to a master isn't there.
 pub record Stands (p : LinkedNode) (s : PipeState) (unread : List ℕ) : Type 0 where
+  pub up : s.core.up ≡ true
   pub core : p.node.core ≡ s.core
   pub end : end_of p.node p.link ≡ Some (end_as s.replica s.transaction unread)
   pub alone : (x : LinkId) → x ≢ p.link → end_of p.node x ≡ None

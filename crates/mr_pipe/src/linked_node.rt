@@ -1,5 +1,5 @@
 // A node and its one client.
-ghost use Rattle.std.specs.Prelude.{◌≡◌, [], IfOk, IfErr, ◌⊎◌};
+ghost use Rattle.std.specs.Prelude.{◌≡◌, [], IfOk, IfErr};
 ghost use Rattle.mr_pipe.specs.State.{Stands, counted, fresh_id};
 ghost use Rattle.mr_pipe.specs.Piped.{begun_with};
 
@@ -27,8 +27,7 @@ impl LinkedNode {
         dataset: Dataset,
     ) -> Result<LinkedNode, PipeFault>
         ensures stands { IfOk result (λ linked. Stands linked (begun_with id dataset) []) }
-        ensures fault { IfErr result (λ e. (e ≡ PipeFault.Memory) ⊎
-            (e ≡ PipeFault.Stopped)) }
+        ensures fault { IfErr result (λ e. e ≡ PipeFault.Memory) }
     {
         let Some(config) = Config::new(false, 0, USUAL_BACKLOG) else {
             unreachable!()

@@ -1,4 +1,6 @@
+pub mod Asking
 pub mod Faults
 pub mod Levels
 pub mod Numbers
+pub mod Playing
 pub mod Three

@@ -1,7 +1,11 @@
 // The client of the three nodes.
-ghost use Rattle.std.specs.Prelude.{IfOk, IfSome, IfErr};
+ghost use Rattle.std.specs.Prelude.{◌≡◌, IfOk, IfSome, IfNone, IfErr, OnOk, None, Some, map};
+ghost use Rattle.std.specs.Cow.{cow_slice_items};
 ghost use Rattle.mr_client.specs.Replies.{IsReply};
+ghost use Rattle.mr_client.specs.State.{begun};
 ghost use Rattle.mr_console.specs.Faults.{IsInner};
+ghost use Rattle.mr_resp.specs.Spelling.{array};
+ghost use Rattle.mr_trio.specs.Asking.{IsAsked, IsFrom, IsTaken, Moves, MovesIf, end_at};
 
 use crate::faults::of_client;
 use mr_client::Client;
@@ -66,22 +70,27 @@ impl Desk {
         port: u16,
         words: &[CowSlice<'_, u8>],
     ) -> Result<(), TrioFault>
-        ensures { IfErr result IsInner }
+        ensures asked { OnOk result (IsAsked (array (map cow_slice_items words.now))
+            (end_at place self.old) (end_at place self.new)) }
+        ensures fault { IfErr result IsInner }
     {
         let mut client = match self.client(place, port) {
             Ok(client) => client,
             Err(fault) => return Err(fault),
         };
-        if client.ask(self.alloc, words).is_err() {
-            return Err(TrioFault::Stopped);
+        match client.ask(self.alloc, words) {
+            Ok(()) => {
+                self.put(place, client);
+                Ok(())
+            }
+            Err(_refused) => Err(TrioFault::Stopped),
         }
-        self.put(place, client);
-        Ok(())
     }
 
     /// The link to a node, taken out: a new one where there was none that goes on.
     fn client(&mut self, place: Place, port: u16) -> Result<Client, TrioFault>
-        ensures { IfErr result IsInner }
+        ensures from { IfOk result (λ client. IsFrom (end_at place self.old) client) }
+        ensures fault { IfErr result IsInner }
     {
         match self.take(place) {
             Some(client) => self.renewed(client, port),
@@ -91,18 +100,20 @@ impl Desk {
 
     /// The same link, or a new one where the node has closed it meanwhile.
     fn renewed(&mut self, mut client: Client, port: u16) -> Result<Client, TrioFault>
-        ensures { IfErr result IsInner }
+        ensures from { IfOk result (λ next. IsFrom (Some client) next) }
+        ensures fault { IfErr result IsInner }
     {
         if self.wait().is_err() {
             return Err(TrioFault::Socket);
         }
         match self.move_bytes(&mut client) {
-            Ok(()) => {}
+            Ok(()) => {
+                if !client.has_ended() {
+                    return Ok(client);
+                }
+            }
             Err(TrioFault::Socket) => {}
             Err(fault) => return Err(fault),
-        }
-        if !client.has_ended() {
-            return Ok(client);
         }
         self.wire.close(client.link());
         self.connect(port)
@@ -110,7 +121,8 @@ impl Desk {
 
     /// A new link to the node at this port.
     fn connect(&mut self, port: u16) -> Result<Client, TrioFault>
-        ensures { IfErr result IsInner }
+        ensures new { IfOk result (λ client. client ≡ begun client.link) }
+        ensures fault { IfErr result IsInner }
     {
         match Client::connect(self.alloc, &mut self.wire, HOST, port) {
             Ok(client) => Ok(client),
@@ -119,7 +131,10 @@ impl Desk {
     }
 
     /// Takes the link to the node at this place out, if there is one.
-    fn take(&mut self, place: Place) -> Option<Client> {
+    fn take(&mut self, place: Place) -> Option<Client>
+        ensures taken { result ≡ end_at place self.old }
+        ensures none { end_at place self.new ≡ None }
+    {
         match place {
             Place::First => self.first.take(),
             Place::Second => self.second.take(),
@@ -128,7 +143,9 @@ impl Desk {
     }
 
     /// Keeps a link to the node at this place, instead of the one before.
-    fn put(&mut self, place: Place, client: Client) {
+    fn put(&mut self, place: Place, client: Client)
+        ensures { end_at place self.new ≡ Some client }
+    {
         match place {
             Place::First => self.first = Some(client),
             Place::Second => self.second = Some(client),
@@ -138,7 +155,8 @@ impl Desk {
 
     /// Sends what waits for a node, and takes in what came of it.
     pub(crate) fn exchange(&mut self, place: Place) -> Result<(), TrioFault>
-        ensures { IfErr result IsInner }
+        ensures moves { OnOk result (MovesIf (end_at place self.old) (end_at place self.new)) }
+        ensures fault { IfErr result IsInner }
     {
         if self.wait().is_err() {
             return Err(TrioFault::Socket);
@@ -156,7 +174,11 @@ impl Desk {
     }
 
     /// Waits until something is ready, or for as long as the client may.
-    fn wait(&mut self) -> Result<(), TrioFault> {
+    fn wait(&mut self) -> Result<(), TrioFault>
+        ensures first { self.new.first ≡ self.old.first }
+        ensures second { self.new.second ≡ self.old.second }
+        ensures third { self.new.third ≡ self.old.third }
+    {
         if self.wire.wait(LONGEST_WAIT).is_err() {
             return Err(TrioFault::Socket);
         }
@@ -170,7 +192,8 @@ impl Desk {
 
     /// Moves bytes both ways.
     fn move_bytes(&mut self, client: &mut Client) -> Result<(), TrioFault>
-        ensures { IfErr result IsInner }
+        ensures moves { OnOk result (Moves client.old client.new) }
+        ensures fault { IfErr result IsInner }
     {
         match client.send(&mut self.wire) {
             Ok(()) => {}
@@ -185,6 +208,10 @@ impl Desk {
     /// Takes the next reply of a node, where all of it came.
     pub(crate) fn take_reply(&mut self, place: Place) -> Result<Option<Vec<u8>>, TrioFault>
         ensures reply { IfOk result (λ reply. IfSome reply (λ text. IsReply text.items)) }
+        ensures taken { IfOk result (λ reply. IfSome reply (λ text.
+            IsTaken (end_at place self.old) (end_at place self.new) text.items)) }
+        ensures none { IfOk result (λ reply.
+            IfNone reply (end_at place self.new ≡ end_at place self.old)) }
         ensures fault { IfErr result IsInner }
     {
         let Some(mut client) = self.take(place) else {

@@ -120,6 +120,16 @@ impl Member {
         self.node.role()
     }
 
+    /// Whether it is a master.
+    pub(crate) fn leads(&self) -> bool
+        ensures { result ≡ self.now.node.core.master }
+    {
+        match self.node.role() {
+            Role::Master => true,
+            Role::Connect | Role::Sync | Role::Connected => false,
+        }
+    }
+
     /// Whom it was told to follow.
     pub(crate) fn upstream(&self) -> Option<&Address>
         ensures { option_copied result ≡ self.now.node.core.upstream }

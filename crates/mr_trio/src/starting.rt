@@ -1,5 +1,5 @@
 // A trio, from its start to its end.
-ghost use Rattle.mr_console.specs.Scripts.{PlaysScript};
+ghost use Rattle.mr_trio.specs.Playing.{PlaysTrio};
 
 use crate::three::Three;
 use mr_console::{TrioFault, play};
@@ -16,11 +16,24 @@ pub fn trio<R: BufRead, W: Write>(
     input: &mut R,
     output: &mut W,
 ) -> Result<(), TrioFault>
-    ensures { PlaysScript (R.remaining input.old) (R.remaining input.new) (W.contents output.old)
+    ensures { PlaysTrio (R.remaining input.old) (R.remaining input.new) (W.contents output.old)
         (W.contents output.new) result }
 {
     match Three::start(rt, alloc, seed) {
-        Ok(mut three) => play(alloc, &mut three, input, output),
+        Ok(three) => play_on(alloc, three, input, output),
         Err(fault) => Err(fault),
     }
+}
+
+/// Plays a script on three nodes.
+fn play_on<R: BufRead, W: Write>(
+    alloc: Global,
+    mut three: Three,
+    input: &mut R,
+    output: &mut W,
+) -> Result<(), TrioFault>
+    ensures { PlaysTrio (R.remaining input.old) (R.remaining input.new) (W.contents output.old)
+        (W.contents output.new) result }
+{
+    play(alloc, &mut three, input, output)
 }

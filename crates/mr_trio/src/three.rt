@@ -1,7 +1,9 @@
 // The three nodes, and their client.
-ghost use Rattle.std.specs.Prelude.{◌⊎◌, IfOk, IfErr, IfSome, IsTrue};
+ghost use Rattle.std.specs.Prelude.{◌≡◌, ◌⊎◌, IfOk, IfErr, IfSome, IfNone, IsErrOf, IsTrue, OnOk, map};
+ghost use Rattle.std.specs.Cow.{cow_slice_items};
 ghost use Rattle.mr_client.specs.Replies.{IsReply};
 ghost use Rattle.mr_console.specs.Faults.{IsInner, IsOfPlay};
+ghost use Rattle.mr_trio.specs.Asking.{Answers, Delays, EndsAs, GoAs, IsAskedOf, MovesIf, MovesToReply, end_at, node_at, three_conduct};
 ghost use Rattle.mr_trio.specs.Levels.{AllLevel, IsAt, IsLevel};
 ghost use Rattle.mr_trio.specs.Three.{trio_of};
 
@@ -78,7 +80,10 @@ impl Three {
     }
 
     /// The node there.
-    fn member(&self, place: Place) -> &Member {
+    fn member(&self, place: Place) -> &Member
+        ensures node { result.now.node ≡ (node_at place (trio_of self.now)).node }
+        ensures port { result.now.port ≡ (node_at place (trio_of self.now)).port }
+    {
         match place {
             Place::First => &self.first,
             Place::Second => &self.second,
@@ -88,7 +93,9 @@ impl Three {
 
     /// The words, with the address of the node in them that they name.
     fn named<'a>(&self, words: Vec<CowSlice<'a, u8>>) -> Result<Vec<CowSlice<'a, u8>>, TrioFault>
-        ensures { IfErr result IsInner }
+        ensures named { IfOk result (λ sent. GoAs (trio_of self.now)
+            (map cow_slice_items words.entry.items) (map cow_slice_items sent.items)) }
+        ensures fault { IfErr result IsInner }
     {
         let Some(place) = node_named(words.as_slice()) else {
             return Ok(words);
@@ -102,7 +109,9 @@ impl Three {
 
     /// Asks the node there. What is sent waits until a turn.
     fn ask_first(&mut self, place: Place, words: Vec<CowSlice<'_, u8>>) -> Result<(), TrioFault>
-        ensures { IfErr result IsInner }
+        ensures asked { OnOk result (IsAskedOf self.old place
+            (map cow_slice_items words.entry.items) (end_at place self.new.desk)) }
+        ensures fault { IfErr result IsInner }
     {
         let port = self.member(place).port();
         match self.named(words) {
@@ -114,7 +123,11 @@ impl Three {
     /// Has turns pass until the reply of the node there is whole and each replica is level with its master: that reply.
     fn settle(&mut self, place: Place) -> Result<Vec<u8>, TrioFault>
         ensures reply { IfOk result (λ text. IsReply text.items) }
+        ensures taken { IfOk result (λ text.
+            MovesToReply (end_at place self.old.desk) (end_at place self.new.desk) text.items) }
         ensures level { IfOk result (λ text. AllLevel (trio_of self.new)) }
+        ensures late { IsErrOf result TrioFault.Late →
+            MovesIf (end_at place self.old.desk) (end_at place self.new.desk) }
         ensures fault { IfErr result IsOfPlay }
     {
         for _turn in 0..MOST_TURNS {
@@ -130,8 +143,13 @@ impl Three {
     /// A turn of the client and of each node. It answers the reply of the node there, where all of it came and each replica is level.
     fn turn(&mut self, place: Place) -> Result<Option<Vec<u8>>, TrioFault>
         ensures reply { IfOk result (λ reply. IfSome reply (λ text. IsReply text.items)) }
+        ensures taken { IfOk result (λ reply. IfSome reply (λ text.
+            MovesToReply (end_at place self.old.desk) (end_at place self.new.desk)
+            text.items)) }
         ensures level { IfOk result (λ reply.
             IfSome reply (λ text. AllLevel (trio_of self.new))) }
+        ensures none { IfOk result (λ reply. IfNone reply
+            (MovesIf (end_at place self.old.desk) (end_at place self.new.desk))) }
         ensures fault { IfErr result IsInner }
     {
         match self.turn_each(place) {
@@ -146,7 +164,9 @@ impl Three {
 
     /// A turn of the client, which looks to the node there, and of each node.
     fn turn_each(&mut self, place: Place) -> Result<(), TrioFault>
-        ensures { IfErr result IsInner }
+        ensures moves { OnOk result
+            (MovesIf (end_at place self.old.desk) (end_at place self.new.desk)) }
+        ensures fault { IfErr result IsInner }
     {
         match self.desk.exchange(place) {
             Ok(()) => {}
@@ -205,6 +225,8 @@ impl Three {
 }
 
 impl Nodes for Three {
+    ghost conduct = { three_conduct };
+
     fn ask(&mut self, place: Place, words: Vec<CowSlice<'_, u8>>) -> Result<Vec<u8>, TrioFault> {
         match self.ask_first(place, words) {
             Ok(()) => self.settle(place),
@@ -216,7 +238,7 @@ impl Nodes for Three {
         let member = self.member(place);
         match member.shows() {
             Some((id, offset)) => Ok(Ending {
-                master: member.role() == Role::Master,
+                master: member.leads(),
                 id,
                 offset,
             }),

@@ -12,8 +12,8 @@ pub returns-in-Ok : goal.returns-in-Ok
 returns-in-Ok g c =
     let P : Asked → Type 0 = λ it. IsAsked c.args.line.now it in
     let asks = subst P c.in-Ok-Request.field-0-is c.in-Ok-Request.ensures in
-    let said = c.in-Ok.ensures.said in
+    let said = c.in-Ok.ensures in
     let text = c.as_slice.ensures.value ∙ said.is in
     let W : List ℕ → Type 0 = λ bytes. OnOk c.tell-in-Ok.result (Appends (g.W.Write.contents c.args.output.now) (g.W.Write.contents c.tell-in-Ok.new.output) bytes) in
     let B : List ℕ → Type 0 = λ bytes. OnErr c.tell-in-Ok.result (IsBegun (g.W.Write.contents c.args.output.now) (g.W.Write.contents c.tell-in-Ok.new.output) bytes) in
-    told_line c.args.line.now (reply said.reply) _ _ c.tell-in-Ok.result (record { place = _; words = _; asks = asks }, said.is_reply) (subst W text c.tell-in-Ok.ensures.written) (subst B text c.tell-in-Ok.ensures.begun) c.tell-in-Ok.ensures.fault
+    told_line g.N.Nodes.conduct _ _ c.args.line.now (reply said.reply) _ _ c.tell-in-Ok.result (record { place = _; words = _; asks = asks; answers = said.answers; is_reply = said.is_reply }) (subst W text c.tell-in-Ok.ensures.written) (subst B text c.tell-in-Ok.ensures.begun) c.tell-in-Ok.ensures.fault

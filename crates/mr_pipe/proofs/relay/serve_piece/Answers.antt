@@ -1,19 +1,20 @@
-use Rattle.std.proofs.Common.{rules, ◌≡◌, ◌++◌, Ok, Err, refl, sym, subst, take}
+use Rattle.std.proofs.Common.{rules, ◌≡◌, ◌++◌, Ok, Err, sym, subst, take, min, length}
+use Rattle.std.specs.Prelude.{unwrap_or}
+use Rattle.mr_node_spec.specs.State.{room_of}
 use Rattle.mr_pipe.specs.Outside.{outside}
 use Rattle.std.specs.Io.KnownBytes.{Keeps}
-use Rattle.std.proofs.KnownBytes.{Keeps-refl}
 use Rattle.mr_pipe.specs.Reading.{IsRead}
 use Rattle.mr_pipe.specs.Serving.{IsDrained}
 use Rattle.mr_pipe.specs.Piped.{IsRound}
-use Rattle.mr_pipe.specs.declared.fault.PipeFault.TheVariants as fault
-use Rattle.mr_pipe.proofs.Relaying.{no_more, broken_round, read_failed, delivered, delivered_all, not_delivered, at_end_round}
+use Rattle.mr_pipe.proofs.Relaying.{no_more, no_room, read_failed, delivered, delivered_all, not_delivered, at_end_round}
 use Rattle.mr_pipe.proofs.relay.serve_piece.Goals as goal
 
 pub returns-then-most-eq0 : goal.returns-then-most-eq0
 returns-then-most-eq0 g c = λ s u x d.
     let out = outside g.W.Write.contents g.F.LogFile.told g.F.LogFile.synced g.F.LogFile.failures in
     let y = out c.args.output.now c.args.log.now in let b = g.R.Read.remaining c.args.input.now in let p = c.args.linked.now in
-    broken_round c.args.given s u x b b p y fault.Memory d (Keeps-refl b) (λ k v. refl)
+    let none : min (unwrap_or (room_of p.node p.link) 0) (length c.args.buffer.now) ≡ 0 = search rules in
+    no_room c.args.given s u x b p y d (length c.args.buffer.now) c.requires none
 
 pub returns-in_err-count : goal.returns-in_err-count
 returns-in_err-count g c = λ s u x d.

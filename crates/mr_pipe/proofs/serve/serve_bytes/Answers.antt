@@ -14,7 +14,7 @@ returns-in_err-feed g c = λ s u x w.
     let y = out c.args.output.now c.args.log.now in
     let e = c.in_err-feed.field-0.0 in
     let told : c.from_residual.result ≡ Err (fault_of e) = search rules in
-    subst (λ r. IsDrained c.args.given s (u ++ c.args.bytes.now) x (record c.args.linked.now { node = c.feed.new.self }) y r) (sym told) (not_fed c.args.given s u x c.args.bytes.now c.args.linked.now y e w)
+    subst (λ r. IsDrained c.args.given s (u ++ c.args.bytes.now) x (record c.args.linked.now { node = c.feed.new.self }) y r) (sym told) (not_fed c.args.given s u x c.args.bytes.now c.args.linked.now y c.feed.new.self e w c.in_err-feed.ensures)
 
 pub returns : goal.returns
 returns g c = λ s u x w.

@@ -9,7 +9,18 @@ use Rattle.mr_pipe.specs.Serving.{IsStepped, IsCarriedOut}
 use Rattle.mr_pipe.specs.declared.linked_node.LinkedNode.{LinkedNode}
 use Rattle.mr_pipe.proofs.Steps.{behind, gives, goes, idles, step_waits, steps_last, steps_on}
 use Rattle.mr_pipe.proofs.Goings.{left_out}
+use Rattle.mr_pipe.proofs.Refusals.{step_refused}
+use Rattle.mr_pipe.specs.Faults.{fault_of}
 use Rattle.mr_pipe.proofs.serve.step_once.Goals as goal
+
+pub returns-in_err-step : goal.returns-in_err-step
+returns-in_err-step g c = λ s u h.
+    let x = outside g.W.Write.contents g.F.LogFile.told g.F.LogFile.synced g.F.LogFile.failures c.args.output.now c.args.log.now in
+    let p = c.args.linked.now in let b = c.step.new.self in
+    let e = c.in_err-step.field-0.0 in
+    let steps : Steps p.node p.link c.args.given (fresh_id p.used) b (Err e) = subst (λ f. Steps p.node p.link c.args.given f b (Err e)) c.fresh-fresh.ensures c.in_err-step.ensures in
+    let told : c.from_residual.result ≡ Err (fault_of e) = search rules in
+    subst (λ r. IsStepped c.args.given s u x (record p { node = b }) x r) (sym told) (step_refused c.args.given s u x p b h e steps)
 
 pub returns-in_err-carry_out-in-Done : goal.returns-in_err-carry_out-in-Done
 returns-in_err-carry_out-in-Done g c = λ s u h.
