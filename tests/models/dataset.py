@@ -1,7 +1,7 @@
 """Datasets, effects, and the commands on data that scripts of a world use, each with its reply and its effects.
 
 A part of the slow, plain model in `world.py`, written from the description alone. A dataset is a dictionary from key to a value and a deadline or
-None; a value is bytes, a tuple of items (a list) or a frozenset of members (a set). Nothing is changed in place. An effect is its words."""
+None; a value is bytes, a tuple of items (a list), a frozenset of members (a set) or scores of members (a sorted set). Nothing is changed in place. An effect is its words."""
 
 from typing import NamedTuple
 
@@ -13,6 +13,7 @@ from tests.support.requests import framed
 
 MOST_DEADLINE = 2**62
 MOST_AMOUNT = 2**61
+MOST_SCORE = 2**53
 # so many items stand in one effect of a command, and in one command that rebuilds
 GROUP = 64
 # in one tick
@@ -25,6 +26,10 @@ PING = (b"PING",)
 
 class Undefined(Exception):
     """No effect has these words, or it can't be applied here."""
+
+
+class Scores(dict):
+    """A sorted set: its members, each with its score."""
 
 
 class Given(NamedTuple):
@@ -110,6 +115,13 @@ def pop_left(held, key, count):
     return put(held, key, items[counted(count, 1, len(items)) :])
 
 
+def set_scores(held, key, *words):
+    if len(words) % 2:
+        raise Undefined
+    scores = {member: counted(score, -MOST_SCORE, MOST_SCORE) for score, member in zip(words[::2], words[1::2])}
+    return put(held, key, Scores({**value_of(held, key, Scores), **scores}))
+
+
 # each effect: its meaning, and how few and how many words stand behind its name
 EFFECTS = {
     b"SET": (set_value, 2, 4),
@@ -123,9 +135,10 @@ EFFECTS = {
     b"LPOP": (pop_left, 2, 2),
     b"SADD": (lambda held, key, *members: put(held, key, value_of(held, key, frozenset) | set(members)), 2, None),
     b"SREM": (lambda held, key, *members: put(held, key, value_of(held, key, frozenset) - set(members)), 2, None),
+    b"ZADD": (set_scores, 3, None),
 }
 # effects that no command of the model has
-OTHER_EFFECTS = "MSET APPEND SETRANGE PERSIST RENAME HSET HDEL RPOP LSET LINSERT LREM LTRIM LMOVE SMOVE ZADD ZREM".encode().split()
+OTHER_EFFECTS = "MSET APPEND SETRANGE PERSIST RENAME HSET HDEL RPOP LSET LINSERT LREM LTRIM LMOVE SMOVE ZREM".encode().split()
 
 
 def apply(held, effect):
@@ -220,6 +233,8 @@ def rebuild(held):
         value, deadline = held[key]
         if type(value) is bytes:
             made += request("SET", key, value)
+        elif type(value) is Scores:
+            made += texts(scored(key, value))
         else:
             made += texts(grouped("RPUSH" if type(value) is tuple else "SADD", key, value if type(value) is tuple else sorted(value)))
         if deadline is not None:
@@ -230,6 +245,13 @@ def rebuild(held):
 def grouped(name, key, items):
     items = tuple(items)
     return [(name.encode(), key, *items[at : at + GROUP]) for at in range(0, len(items), GROUP)]
+
+
+def scored(key, scores):
+    """The effects that give these members their scores."""
+    members = sorted(scores)
+    parts = [members[at : at + GROUP] for at in range(0, len(members), GROUP)]
+    return [(b"ZADD", key, *(word for member in part for word in (b"%d" % scores[member], member))) for part in parts]
 
 
 def past(held, now):
@@ -406,6 +428,24 @@ def plan_add(seen, held, words, options, given):
     return number(len(new)), grouped("SADD", words[1], sorted(new))
 
 
+def read_scores(words):
+    """The members and their scores, where no option stands before them."""
+    if words[2].upper() in (b"NX", b"XX", b"GT", b"LT", b"CH", b"INCR"):
+        raise NotImplementedError(words[2])
+    if len(words) % 2:
+        raise AskFault(SYNTAX)
+    scores = [strict(score, -MOST_SCORE, MOST_SCORE) for score in words[2::2]]
+    if None in scores:
+        raise AskFault(INTEGER)
+    return dict(zip(words[3::2], scores))
+
+
+def plan_score(seen, held, words, scores, given):
+    before = kept(seen, words[1], Scores)
+    changed = {member: score for member, score in scores.items() if before.get(member) != score}
+    return number(len(scores.keys() - before.keys())), scored(words[1], changed)
+
+
 def plan_remove(seen, held, words, options, given):
     gone = set(words[2:]) & kept(seen, words[1], frozenset)
     return number(len(gone)), grouped("SREM", words[1], sorted(gone))
@@ -448,6 +488,7 @@ COMMANDS = {
     b"INCR": Command(plan_increase, 2, 2),
     b"SADD": Command(plan_add, 3),
     b"SREM": Command(plan_remove, 3),
+    b"ZADD": Command(plan_score, 4, read=read_scores),
     b"SPOP": Command(plan_draw, 2, 3, read=read_count),
     b"LPUSH": Command(plan_push, 3),
     b"LPOP": Command(plan_pop, 2, 3, read=read_count),
@@ -459,7 +500,7 @@ COMMANDS = {
 OTHER_COMMANDS = """
     STRLEN GETRANGE MGET SETNX SETEX PSETEX GETSET GETDEL MSET MSETNX APPEND SETRANGE DECR INCRBY DECRBY UNLINK EXISTS TYPE PEXPIRE EXPIREAT PEXPIREAT TTL
     EXPIRETIME PEXPIRETIME PERSIST RENAME RENAMENX KEYS SCAN HSET HMSET HSETNX HGET HMGET HGETALL HKEYS HVALS HDEL HEXISTS HLEN HSTRLEN HINCRBY RPUSH LPUSHX
-    RPUSHX RPOP LLEN LRANGE LINDEX LSET LINSERT LREM LTRIM LMOVE RPOPLPUSH SISMEMBER SMISMEMBER SMEMBERS SCARD SRANDMEMBER SMOVE SINTER SUNION SDIFF ZADD
+    RPUSHX RPOP LLEN LRANGE LINDEX LSET LINSERT LREM LTRIM LMOVE RPOPLPUSH SISMEMBER SMISMEMBER SMEMBERS SCARD SRANDMEMBER SMOVE SINTER SUNION SDIFF
     ZINCRBY ZREM ZCARD ZCOUNT ZSCORE ZMSCORE ZRANK ZREVRANK ZRANGE ZREVRANGE ZRANGEBYSCORE ZREVRANGEBYSCORE ZPOPMIN ZPOPMAX ZREMRANGEBYRANK ZREMRANGEBYSCORE
     SELECT COMMAND CLIENT FLUSHDB
 """.encode().split()
