@@ -15,10 +15,11 @@ EXCUSED = {
     "functions": {
         "rehearse_values": 201,  # a program for tests: calls on each kind of value
         "mr_order": 153,  # one structure in levels, and its searches
+        "rehearse_systems": 130,  # a program for tests: servers, the network between them, and a wire of their own
         "minired": 133,  # what a program does with what it is handed, of four kinds
         "mr_value": 118,  # lists, hashes, sets and their bytes: kinds of one value
         "mr_node": 115,  # each call on a node, by the one invariant below it
-        "mr_loop": 129,  # a turn, whose steps share one clause
+        "mr_loop": 132,  # a turn, whose steps share one clause
         "mr_keyspace": 111,  # what each effect makes of each kind of value, and the order of deadlines beside them
     },
     "rows": {
@@ -41,7 +42,6 @@ EXCUSED = {
         "mr_cmd_zset planning::change": 53,
         "mr_cmd_key planning::reply_to": 49,
         "mr_effect effect::Effect::fits": 48,
-        "mr_world_player asked::asked_by": 46,
         "mr_cmd_list planning::answer_of": 40,
     },
     # a name that a crate exports, as one that it uses does, and why each may
