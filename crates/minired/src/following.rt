@@ -139,15 +139,12 @@ impl FollowNotice {
         if followed.copied > 0 {
             self.way = Way::Streaming;
             self.told = None;
-            let bytes = followed.bytes;
+            let (keys, bytes) = (node.key_count(), followed.bytes);
             let took = Seconds(self.since(notices));
-            // a node that stopped since tells of no keys
-            if let Some(keys) = node.key_count() {
-                notices.tell(&format_args!(
-                    "replica of {}, whole copy of {keys} keys, {bytes} bytes, in {took} s",
-                    ShownAddress(of)
-                ));
-            }
+            notices.tell(&format_args!(
+                "replica of {}, whole copy of {keys} keys, {bytes} bytes, in {took} s",
+                ShownAddress(of)
+            ));
         }
         if followed.continued > 0 {
             self.way = Way::Streaming;

@@ -247,8 +247,8 @@ module _ (a : NodeState) (given : Given) (old : OutsState) where
   some_counted (e ∷ es) n is none = cc
 
   -- memory ran out behind these
-  stops_behind : (front rest requests : List (List ℕ)) (count : ℕ) (now b : NodeState) (mid : OutsState) → requests ≡ front ++ rest → (rest ≡ [] → ⊥) → DidAll a given front old (suc count) now mid → b ≡ stopped_as now → StoppedWithin a given requests b
-  stops_behind front rest requests count now b mid is behind d stopped = record {
+  stops_behind : (front rest requests : List (List ℕ)) (count : ℕ) (now b : NodeState) (mid : OutsState) → requests ≡ front ++ rest → DidAll a given front old (suc count) now mid → b ≡ stopped_as now → StoppedWithin a given requests b
+  stops_behind front rest requests count now b mid is d stopped = record {
     done_first = front;
     left = rest;
     first = is;
@@ -257,7 +257,6 @@ module _ (a : NodeState) (given : Given) (old : OutsState) where
     before = d.held;
     does = d.does;
     some = inl (some_counted d.effects count d.counted);
-    framed = λ none. absurd (behind none);
     held = d.held;
     spent = stopped ∙ ap stopped_as d.are_done.node;
   }
@@ -273,7 +272,6 @@ module _ (a : NodeState) (given : Given) (old : OutsState) where
     effects = d.effects;
     before = d.held;
     does = d.does;
-    framed = λ none. let never : text ∷ later ≡ [] = none in cc;
     some = inr (record { text = text; later = later; first = refl; words = words; request = asks; plain = s.plain; reply = s.reply; effects = s.effects; plan = s.plan; fits = s.fits; heavy = s.heavy });
     held = s.held;
     spent = same ∙ s.spent;
@@ -285,7 +283,7 @@ module _ (a : NodeState) (given : Given) (old : OutsState) where
   gives_up front later requests text words zero fault.Memory told now mid_node b mid new last is asks d one g =
       subst (λ (z : NodeFault). DoesEach a given requests old (Err z) b last) (sym g.1) (g.0 ∙ (one ∙ unchanged front now mid d))
   gives_up front later requests text words (suc count) fault.Memory told now mid_node b mid new last is asks d one g =
-      subst (λ (z : NodeFault). DoesEach a given requests old (Err z) b last) (sym g.1) (stops_behind front (text ∷ later) requests count now b mid is (λ none. cc) d (g.0 ∙ ap stopped_as one))
+      subst (λ (z : NodeFault). DoesEach a given requests old (Err z) b last) (sym g.1) (stops_behind front (text ∷ later) requests count now b mid is d (g.0 ∙ ap stopped_as one))
   gives_up front later requests text words count fault.Stopped told now mid_node b mid new last is asks d one g =
       subst (λ (z : NodeFault). DoesEach a given requests old (Err z) b last) (sym g.1) (stops_in front later requests text words count now mid_node b mid is asks d one g.0)
   gives_up front later requests text words count fault.NoLink told now mid_node b mid new last is asks d one g = absurd one
@@ -370,12 +368,8 @@ module _ (a : NodeState) (given : Given) (requests : List (List ℕ)) (old : Out
             ∙ ap (λ (z : List ℕ). record old { grown = g; appended = g; fed = new.fed; reply = z }) said);
       }
 
-several_are : (es : List Effect) → 1 < length es → es ≢ []
-several_are [] some none = absurd (omega (arith, some))
-several_are (e ∷ es) some none = cc
-
 -- .. or memory was lacking for their frame
-pub stopped_framing : (a : NodeState) (given : Given) (requests : List (List ℕ)) (old mid : OutsState) (count : ℕ) (now b : NodeState) (d : DidAll a given requests old count now mid) → 1 < length d.effects → b ≡ stopped_as now → StoppedWithin a given requests b
+pub stopped_framing : (a : NodeState) (given : Given) (requests : List (List ℕ)) (old mid : OutsState) (count : ℕ) (now b : NodeState) (d : DidAll a given requests old count now mid) → d.effects ≢ [] → b ≡ stopped_as now → StoppedWithin a given requests b
 stopped_framing a given requests old mid count now b d some is = record {
   done_first = requests;
   left = [];
@@ -384,8 +378,7 @@ stopped_framing a given requests old mid count now b d some is = record {
   effects = d.effects;
   before = d.held;
   does = d.does;
-  some = inl (several_are d.effects some);
-  framed = λ none. some;
+  some = inl some;
   held = d.held;
   spent = is ∙ ap stopped_as d.are_done.node;
 }
@@ -502,7 +495,6 @@ module _ (a : NodeState) (l : LinkId) (t : Transaction) (u : List ℕ) (given : 
       held = s.before;
       does = do_so (frame_of without_it) (frame_of a) (not a.core.master) given (λ es h. h) (λ es h. h) told_before s.done_first [] a.core.held s.before s.replies s.effects s.does;
       some = had s.some;
-      framed = s.framed;
     };
     held = s.held;
     spent = is ∙ (ap (λ (z : NodeState). with_ends z (put_end z.ends l (waiting t u))) s.spent ∙ ap (λ z. with_ends (spent_as s.held a) z) again);

@@ -1,5 +1,5 @@
 -- What waited is done as one, part by part.
-use Rattle.std.specs.Prelude.{◌≡◌, ◌≢◌, ◌<◌, ◌⊎◌, ◌++◌, ◌∷◌, ℕ, zero, suc, List, [], true, false, not, None, Some, Result, Ok, Err, length}
+use Rattle.std.specs.Prelude.{◌≡◌, ◌≢◌, ◌⊎◌, ◌++◌, ◌∷◌, ℕ, zero, suc, List, [], true, false, not, None, Some, Result, Ok, Err, length}
 use Rattle.std.specs.List.{AllByRecursion}
 use Rattle.mr_links.specs.declared.link_id.LinkId.{LinkId}
 use Rattle.mr_resp.specs.Replies.{Tree, array, replies_text, reply_text}
@@ -117,7 +117,7 @@ pub record DidAll (a : NodeState) (given : Given) (requests : List (List ℕ)) (
   pub counted : count ≡ length effects
   pub outs_are : outs ≡ put_out effects (first.reply ++ replies_text (as_trees replies)) first
 
--- Memory ran out within them: those in front were done, and they had effects, or those of the next take some. Where none is left, it was the frame's.
+-- Memory ran out within them: those in front were done, and they had effects, or those of the next take some.
 pub record StoppedWithin (a : NodeState) (given : Given) (requests : List (List ℕ)) (b : NodeState) : Type 0 where
   pub done_first : List (List ℕ)
   pub left : List (List ℕ)
@@ -127,7 +127,6 @@ pub record StoppedWithin (a : NodeState) (given : Given) (requests : List (List 
   pub before : Dataset
   pub does : DoesAll (frame_of a) (not a.core.master) given done_first [] a.core.held replies effects before
   pub some : (effects ≢ []) ⊎ FirstTakesMemory (frame_of a) (not a.core.master) given left effects before
-  pub framed : left ≡ [] → 1 < length effects
   pub held : Dataset
   pub spent : b ≡ spent_as held a
 
@@ -137,10 +136,10 @@ GivesUp fault.Memory zero a b told = (b ≡ a) × (told ≡ fault.Memory)
 GivesUp fault.Memory (suc count) a b told = (b ≡ stopped_as a) × (told ≡ fault.Stopped)
 GivesUp f count a b told = (b ≡ a) × (told ≡ f)
 
--- The group of these effects stands behind the stream; or memory was lacking for the frame round several, and the node stopped.
+-- The group of these effects stands behind the stream; or memory was lacking, and the node stopped.
 abbrev pub ClosesGroup : List Effect → NodeState → OutsState → Result (Unit {0}) NodeFault → NodeState → OutsState → Type 0
 ClosesGroup effects a old (Ok done) b new = (b ≡ streams_on (grown_text effects) a) × (new ≡ record old { grown = grown_text effects; appended = grown_text effects; fed = new.fed }) × FedBy effects old.fed new.fed
-ClosesGroup effects a old (Err fault.Stopped) b new = (1 < length effects) × (b ≡ stopped_as a)
+ClosesGroup effects a old (Err fault.Stopped) b new = (effects ≢ []) × (b ≡ stopped_as a)
 ClosesGroup effects a old (Err fault.Memory) b new = ⊥
 ClosesGroup effects a old (Err fault.NoLink) b new = ⊥
 ClosesGroup effects a old (Err fault.InputFull) b new = ⊥

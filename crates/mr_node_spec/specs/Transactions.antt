@@ -1,5 +1,5 @@
 -- What a step at a client's end may do where a transaction is open, one row for each.
-use Rattle.std.specs.Prelude.{◌≡◌, ◌≢◌, ◌⊎◌, ◌+◌, ◌≤◌, ◌<◌, ◌++◌, ℕ, List, [], ◌∷◌, true, false, not, Some, length}
+use Rattle.std.specs.Prelude.{◌≡◌, ◌≢◌, ◌⊎◌, ◌+◌, ◌≤◌, ◌++◌, ℕ, List, [], ◌∷◌, true, false, not, Some, length}
 use Rattle.mr_links.specs.declared.link_id.LinkId.{LinkId}
 use Rattle.mr_resp.specs.Replies.{Tree, Trees, array, none, more, reply_text}
 use Rattle.mr_keyspace.specs.Dataset.{Dataset}
@@ -115,8 +115,7 @@ pub data WithinRow (a : NodeState) (l : LinkId) (t : Transaction) (u : List ℕ)
   executes : Executes a l t u given b outs → WithinRow a l t u given b outs
   closes : Closes a l u b outs → WithinRow a l t u given b outs
 
--- Memory ran out within what waits, of which some has changed the dataset: those in front of it are done, and they had effects or it has. Where all
--- are done only a frame takes more, which stands round several effects.
+-- Memory ran out within what waits, of which some has changed the dataset: those in front of it are done, and they had effects or it has.
 pub record StopsWithin (a : NodeState) (t : Transaction) (u : List ℕ) (given : Given) : Type 0 where
   pub words : List (List ℕ)
   pub rest : List ℕ
@@ -131,4 +130,3 @@ pub record StopsWithin (a : NodeState) (t : Transaction) (u : List ℕ) (given :
   pub held : Dataset
   pub does : DoesAll (frame_of a) (not a.core.master) given done_first [] a.core.held replies effects held
   pub some : (effects ≢ []) ⊎ FirstTakesMemory (frame_of a) (not a.core.master) given left effects held
-  pub framed : left ≡ [] → 1 < length effects

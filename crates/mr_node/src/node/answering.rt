@@ -1,5 +1,5 @@
 // What a client's request is answered, where it asks nothing of the node itself.
-ghost use Rattle.std.specs.Prelude.{◌≡◌, ◌≢◌, ◌≤◌, ℕ, List, [], true, not, length, IfErr, IfOk, OnOk, Some, Ok, false};
+ghost use Rattle.std.specs.Prelude.{◌≡◌, ◌≤◌, ℕ, List, [], true, not, length, IfOk, OnOk, Some, Ok, false};
 ghost use Rattle.mr_resp.specs.ReplyView.{view};
 ghost use Rattle.mr_resp.specs.Replies.{error, reply_text};
 ghost use Rattle.mr_resp.specs.Faults.{fault_text};
@@ -195,8 +195,7 @@ impl Node {
     /// What the stream grows by goes to all replicas. Where it grows by nothing, nothing is sent.
     pub(crate) fn feed_replicas(&self, outs: &mut Outs) -> Result<(), AllocError>
         requires { outs.old.fed ≡ [] }
-        ensures feeds { OnOk result (FeedsAll self.now outs.old outs.new) }
-        ensures lacks { IfErr result (λ lacks. outs.old.grown ≢ []) }
+        ensures { OnOk result (FeedsAll self.now outs.old outs.new) }
     {
         if outs.grown().is_empty() {
             return Ok(());
