@@ -1,5 +1,5 @@
 -- The group at the front of the stream.
-use Rattle.std.specs.Prelude.{◌≡◌, ◌≢◌, ℕ, ◌<◌, ◌≤◌, List, ◌++◌, length, take, Option, Some, None, Result, Ok, Err}
+use Rattle.std.specs.Prelude.{◌≡◌, ℕ, ◌<◌, ◌≤◌, List, ◌++◌, length, take, Option, Some, None, Result, Ok, Err}
 use Rattle.std.specs.List.{AllByRecursion}
 use Rattle.std.specs.FinMap.{empty}
 use Rattle.mr_resp.specs.Command.{IsCommand}
@@ -9,10 +9,7 @@ use Rattle.mr_keyspace.specs.Changes.{NeedsNoMemory}
 use Rattle.mr_keyspace.specs.Dataset.{Dataset}
 use Rattle.mr_data.specs.Meaning.{apply_all}
 use Rattle.mr_replay.specs.Steps.{DoesWords, RefusesWords, SpendsWords}
-use Rattle.mr_replay.specs.declared.trying.Tried.{Tried}
-use Rattle.mr_replay.specs.declared.trying.Tried.TheVariants as tried
 use Rattle.mr_groups.specs.Groups.{IsGoodGroup, group_text}
-use Rattle.mr_groups.specs.Parts.{multi_words}
 use Rattle.mr_groups.specs.Reading.{IsFirstGroup, IsOpen}
 use Rattle.mr_groups.specs.Folding.{IsRefused, IsTorn}
 use Rattle.mr_groups.specs.declared.applying.GroupFault.{GroupFault}
@@ -56,10 +53,6 @@ pub record HasCommand (u : List ℕ) (room : ℕ) : Type 0 where
   pub within : length front ≤ room
   pub command : IsCommand commands front words
 
--- Such a text that begins no frame is no beginning of a group's text: more is wanted there within a frame alone.
-abbrev pub MoreIsWantedInFrames : Type 0
-MoreIsWantedInFrames = (u : List ℕ) (room : ℕ) (found : HasCommand u room) → found.words ≢ multi_words → IsOpen u → ⊥
-
 -- no text of a group that can be applied here, of at most so many bytes, begins these, however they go on
 abbrev pub IsStuckWithin : ℕ → Dataset → List ℕ → Type 0
 IsStuckWithin room m u = (g : List Effect) (n : Dataset) (more behind : List ℕ) → IsGoodGroup g → apply_all g m ≡ Some n → length (group_text g) ≤ room → u ++ more ≡ group_text g ++ behind → ⊥
@@ -86,14 +79,6 @@ AppliesText front ws m (Err Undecodable) n before after = RefusesWords ws m × I
 AppliesText front ws m (Err Memory) n before after = IsSame m n before after
 AppliesText front ws m (Err Spent) n before after = SpendsWords ws m n × (after ≡ before)
 AppliesText front ws m (Err Torn) n before after = ⊥
-
--- What was done with an effect whose text has so many bytes, as a follower tells it: memory is told only where nothing is known of
--- the effect, never of one that can't be applied.
-abbrev pub told_of : Tried → ℕ → Result (Option ℕ) FollowFault
-told_of tried.Done count = Ok (Some count)
-told_of tried.Refused count = Err Undecodable
-told_of tried.Lack count = Err Memory
-told_of tried.Spent count = Err Spent
 
 -- why a group wasn't applied, as a follower tells it
 abbrev pub told_as : GroupFault → FollowFault

@@ -2,7 +2,7 @@
 ghost use Rattle.std.specs.Prelude.{ℕ, ◌≡◌, ◌++◌, List, map, take};
 ghost use Rattle.std.specs.Cow.{cow_slice_items};
 ghost use Rattle.mr_resp.specs.Resumed.{AgreesCommand, MayAgree};
-ghost use Rattle.mr_follower.specs.Stream.{AppliesSingle, AppliesText, told_of};
+ghost use Rattle.mr_follower.specs.Stream.{AppliesSingle, AppliesText};
 
 use crate::FollowFault;
 use mr_data::Dataset;
@@ -23,18 +23,6 @@ pub(crate) enum Single {
     Framed,
 }
 
-/// What was done with an effect whose text has so many bytes, as a follower tells it.
-fn told_of(tried: Tried, count: usize) -> Result<Option<usize>, FollowFault>
-    ensures { result ≡ told_of tried count }
-{
-    match tried {
-        Tried::Done => Ok(Some(count)),
-        Tried::Refused => Err(FollowFault::Undecodable),
-        Tried::Lack => Err(FollowFault::Memory),
-        Tried::Spent => Err(FollowFault::Spent),
-    }
-}
-
 /// Applies the effect with these words, and puts its text out. Answers how many bytes it has.
 fn apply_text(
     alloc: Global,
@@ -50,11 +38,21 @@ fn apply_text(
     if out.extend_from_slice(text).is_err() {
         return Err(FollowFault::Memory);
     }
-    let tried = try_words(alloc, words, held);
-    if tried != Tried::Done {
-        out.truncate(before);
+    match try_words(alloc, words, held) {
+        Tried::Done => Ok(Some(text.len())),
+        Tried::Refused => {
+            out.truncate(before);
+            Err(FollowFault::Undecodable)
+        }
+        Tried::Lack => {
+            out.truncate(before);
+            Err(FollowFault::Memory)
+        }
+        Tried::Spent => {
+            out.truncate(before);
+            Err(FollowFault::Spent)
+        }
     }
-    told_of(tried, text.len())
 }
 
 /// Applies the effect that is a group of its own, as `stream::apply_front` does, from where its words stand at the front of the
