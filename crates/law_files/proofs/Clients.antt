@@ -7,7 +7,7 @@ use Rattle.mr_keyspace.specs.Dataset.{Dataset}
 use Rattle.mr_data.specs.Rebuilding.{rebuilding}
 use Rattle.mr_data.specs.declared.given.Given.{Given}
 use Rattle.mr_cmd_node.specs.declared.node_ask.NodeAsk.{NodeAsk}
-use Rattle.mr_replay.specs.Effects.{Makes}
+use Rattle.mr_groups.specs.Effects.{Makes}
 use Rattle.mr_groups.specs.Groups.{as_group, group_texts}
 use Rattle.mr_node_links.specs.State.{Transaction}
 use Rattle.mr_node_output.specs.Outs.{OutsState, Output}

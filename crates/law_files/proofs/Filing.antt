@@ -8,7 +8,7 @@ use Rattle.mr_keyspace.specs.Dataset.{Dataset}
 use Rattle.mr_data.specs.Meaning.{apply_all}
 use Rattle.mr_repl.specs.Backlog.{Window, after_bytes}
 use Rattle.mr_repl.proofs.Windows.{after_bytes-after_bytes}
-use Rattle.mr_replay.specs.Effects.{IsGoodEffect}
+use Rattle.mr_groups.specs.Effects.{IsGoodEffect}
 use Rattle.mr_groups.specs.Groups.{IsGoodGroup, group_text, group_texts, singles}
 use Rattle.mr_groups.specs.Folding.{LeadsByGroups, MakesByGroups, IsStuckByGroups}
 use Rattle.mr_groups.proofs.Notes.{nothing_open}

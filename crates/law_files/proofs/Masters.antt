@@ -10,7 +10,7 @@ use Rattle.mr_effect.specs.declared.effect.Effect.TheVariants as effect
 use Rattle.mr_effect.proofs.Texts.{short_effect}
 use Rattle.mr_keyspace.specs.Dataset.{Dataset}
 use Rattle.mr_repl.specs.Lineage.{LineageState, continued, renamed}
-use Rattle.mr_replay.specs.Effects.{Makes}
+use Rattle.mr_groups.specs.Effects.{Makes}
 use Rattle.mr_groups.specs.Groups.{IsGoodGroup, group_text, group_texts}
 use Rattle.mr_groups.specs.Folding.{apply_groups}
 use Rattle.mr_groups.proofs.Apart.{one_group}

@@ -3,7 +3,7 @@ use Rattle.std.specs.Prelude.{◌≡◌, ◌⊎◌, ℕ, List, [], ◌∷◌, Bo
 use Rattle.mr_effect.specs.declared.effect.Effect.{Effect}
 use Rattle.mr_effect.specs.declared.effect.Effect.TheVariants as effect
 use Rattle.mr_repl.specs.Backlog.{Window, after_bytes}
-use Rattle.mr_replay.specs.Effects.{Makes}
+use Rattle.mr_groups.specs.Effects.{Makes}
 use Rattle.mr_groups.specs.Groups.{IsGoodGroup, group_texts}
 use Rattle.mr_groups.specs.Folding.{apply_groups}
 use Rattle.mr_node_output.specs.Outs.{OutsState}

@@ -6,7 +6,7 @@ use Rattle.mr_keyspace.specs.Dataset.{Dataset}
 use Rattle.mr_data.specs.declared.given.Given.{Given}
 use Rattle.mr_replication.specs.declared.upstream.UpstreamStep.{UpstreamStep}
 use Rattle.mr_node_links.specs.State.{Transaction}
-use Rattle.mr_replay.specs.Effects.{Makes}
+use Rattle.mr_groups.specs.Effects.{Makes}
 use Rattle.mr_groups.specs.Folding.{MakesByGroups, LoadsGroups}
 use Rattle.mr_node_output.specs.Outs.{OutsState, no_outs}
 use Rattle.mr_node_spec.specs.State.{NodeState, started}

@@ -9,7 +9,7 @@ use Rattle.mr_effect.specs.declared.effect.Effect.{Effect}
 use Rattle.mr_keyspace.specs.Dataset.{Dataset}
 use Rattle.mr_keyspace.specs.Changes.{change}
 use Rattle.mr_data.specs.Meaning.{apply, apply_all}
-use Rattle.mr_replay.specs.Effects.{IsGoodEffect}
+use Rattle.mr_groups.specs.Effects.{IsGoodEffect}
 use Rattle.mr_groups.specs.Groups.{IsGoodGroup, IsGroup, as_group, can_join, grown_text, group_texts}
 use Rattle.mr_groups.specs.Folding.{apply_groups}
 use Rattle.mr_groups.proofs.Runs.{first_done}

@@ -45,7 +45,7 @@ use Rattle.mr_cmd_string.specs.declared.text_ask.SetReply.TheVariants as reply
 use Rattle.mr_cmd_string.specs.declared.deadlines.NewDeadline.{NewDeadline}
 use Rattle.mr_cmd_string.specs.declared.deadlines.NewDeadline.TheVariants as deadline
 use Rattle.mr_cmd_string.specs.declared.text_ask.Lifetime.TheVariants.{Until}
-use Rattle.mr_expiry.specs.declared.expiry.Expiry.TheVariants.{Seconds, Milliseconds}
+use Rattle.mr_arguments.specs.declared.expiry.Expiry.TheVariants.{Seconds, Milliseconds}
 use Rattle.mr_cmd_string.specs.Parts.{amount_number}
 use Rattle.mr_cmd_string.specs.Setting as setting
 use Rattle.mr_cmd_string.specs.SettingAll as setting_all

@@ -14,7 +14,7 @@ use Rattle.mr_groups.specs.Folding.{MakesByGroups}
 use Rattle.mr_groups.proofs.Apart.{one_group}
 use Rattle.mr_groups.proofs.Going.{made_once}
 use Rattle.mr_peer_lines.specs.Lines.{size}
-use Rattle.mr_replay.specs.Effects.{IsGoodEffect, Makes}
+use Rattle.mr_groups.specs.Effects.{IsGoodEffect, Makes}
 use Rattle.law_minired.specs.Snapshots.{IsSnapshot}
 use Rattle.law_minired.proofs.Lists.{some_is, same_length}
 use Rattle.law_minired.proofs.Said.{same_said, line_some}

@@ -1,7 +1,7 @@
 -- What makes a dataset again: a snapshot, and a file.
 use Rattle.std.specs.Prelude.{◌≡◌, ℕ, List, ◌++◌, length}
 use Rattle.mr_peer_lines.specs.Lines.{size, IsPeerLine}
-use Rattle.mr_replay.specs.Effects.{Makes}
+use Rattle.mr_groups.specs.Effects.{Makes}
 use Rattle.mr_groups.specs.Folding.{LoadsGroups}
 use Rattle.mr_keyspace.specs.Dataset.{Dataset}
 

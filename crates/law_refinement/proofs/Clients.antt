@@ -17,7 +17,7 @@ use Rattle.mr_cmd_node.specs.declared.node_ask.NodeAsk.TheVariants as node
 use Rattle.mr_ask.specs.Asks.{asked}
 use Rattle.mr_ask.specs.declared.ask.Ask.{Ask}
 use Rattle.mr_ask.specs.declared.ask.Ask.TheVariants as ask
-use Rattle.mr_replay.specs.Effects.{IsGoodEffect}
+use Rattle.mr_groups.specs.Effects.{IsGoodEffect}
 use Rattle.mr_groups.specs.Groups.{group_texts, singles}
 use Rattle.mr_groups.proofs.Runs.{single_applied, single_texts}
 use Rattle.mr_commands.specs.Transactions.{Coming, coming, coming_by}

@@ -28,3 +28,7 @@ pub mod Turning
 pub mod Following
 pub mod Waiting
 pub mod Accepting
+pub mod Histories
+pub mod Moments
+pub mod Level
+pub mod Starting

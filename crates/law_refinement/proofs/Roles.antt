@@ -9,7 +9,7 @@ use Rattle.mr_data.specs.Rebuilding.{rebuilding}
 use Rattle.mr_data.specs.declared.given.Given.{Given}
 use Rattle.mr_cmd_node.specs.declared.node_ask.NodeAsk.{NodeAsk}
 use Rattle.mr_cmd_node.specs.declared.node_ask.NodeAsk.TheVariants as node
-use Rattle.mr_replay.specs.Effects.{Makes}
+use Rattle.mr_groups.specs.Effects.{Makes}
 use Rattle.mr_repl.specs.Backlog.{first_of, bytes_from}
 use Rattle.mr_repl.specs.Lineage.{renamed, standing_of}
 use Rattle.mr_repl.specs.ReplId.{IsId, digits_of}

@@ -5,7 +5,7 @@ use Rattle.std.proofs.lemmas.List.Elements.{All-nil, All-cons, All-head, All-tai
 use Rattle.mr_effect.specs.declared.effect.Effect.{Effect}
 use Rattle.mr_keyspace.specs.Dataset.{Dataset}
 use Rattle.mr_data.specs.Meaning.{apply_all}
-use Rattle.mr_replay.specs.Effects.{IsGoodEffect}
+use Rattle.mr_groups.specs.Effects.{IsGoodEffect}
 use Rattle.mr_groups.specs.Groups.{IsGoodGroup, singles}
 use Rattle.mr_groups.specs.Folding.{apply_groups}
 use Rattle.mr_groups.proofs.Runs.{single_applied}

@@ -6,3 +6,6 @@ pub mod Worlds
 pub mod Carrying
 pub mod Events
 pub mod OwnEnds
+pub mod Showing
+pub mod Runs
+pub mod Headline

@@ -17,8 +17,8 @@ use Rattle.law_refinement.proofs.Accepting.{accepts, accepts_keep, connects, con
 use Rattle.law_refinement.proofs.Beginning.{worlds_begin}
 use Rattle.law_refinement.proofs.Places.{set_here}
 use Rattle.law_refinement.proofs.Linking.{open_stops}
-use Rattle.mr_headline.specs.Runs.{Happens, IsMoment, Run, an_event}
-use Rattle.mr_headline.proofs.Moments.{no_silent_difference}
+use Rattle.law_refinement.specs.Runs.{Happens, IsMoment, Run, an_event}
+use Rattle.law_refinement.proofs.Moments.{no_silent_difference}
 use Rattle.mr_world_parts.specs.declared.side.Side.{Side}
 use Rattle.mr_world_parts.specs.declared.side.Side.TheVariants as side
 use Rattle.mr_world.specs.Hearing.{ListenCall}

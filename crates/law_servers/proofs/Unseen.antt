@@ -24,7 +24,7 @@ use Rattle.law_refinement.proofs.Places.{set_same}
 use Rattle.law_refinement.proofs.Others.{KeepsEnds, all_seen, served_end}
 use Rattle.law_refinement.proofs.Reading.{still_at}
 use Rattle.law_refinement.proofs.Seen.{same_each}
-use Rattle.mr_headline.specs.Runs.{Happens, nothing_seen}
+use Rattle.law_refinement.specs.Runs.{Happens, nothing_seen}
 use Rattle.mr_world.proofs.Changing.{node_world}
 use Rattle.mr_world.proofs.Happened.{nothing}
 use Rattle.mr_world.proofs.Kept.{closed_end, follow_was}

@@ -13,8 +13,8 @@ use Rattle.law_refinement.specs.State.{Link, Slot, WorldState}
 use Rattle.law_refinement.specs.Worlds.{IsWorld, no_world}
 use Rattle.law_refinement.specs.Carrying.{accepting, connecting, put_node}
 use Rattle.law_refinement.specs.Events.{IsRunning, IsWaiting}
-use Rattle.mr_headline.specs.Showing.{Shows}
-use Rattle.mr_headline.specs.Runs.{Happens}
+use Rattle.law_refinement.specs.Showing.{Shows}
+use Rattle.law_refinement.specs.Runs.{Happens}
 use Rattle.mr_world_parts.specs.AtNode.{is_spent}
 use Rattle.mr_world_parts.specs.declared.side.Side.{Side}
 use Rattle.mr_world_parts.specs.declared.side.Side.TheVariants as side

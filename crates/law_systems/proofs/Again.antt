@@ -12,7 +12,7 @@ use Rattle.law_refinement.specs.Worlds.{IsWorld}
 use Rattle.law_refinement.specs.Carrying.{begun_slot, restarted_with, shut_if}
 use Rattle.law_refinement.proofs.Beginning.{restarts}
 use Rattle.law_refinement.proofs.Places.{set_cases, set_here, set_there, some_is}
-use Rattle.mr_headline.specs.Runs.{Happens, an_event}
+use Rattle.law_refinement.specs.Runs.{Happens, an_event}
 use Rattle.mr_world_parts.specs.AtLink.{shut_at}
 use Rattle.mr_world_parts.specs.declared.side.Side.{Side}
 use Rattle.mr_world_parts.specs.declared.side.Side.TheVariants as side

@@ -15,7 +15,7 @@ use Rattle.law_refinement.specs.Worlds.{IsWorld, end_for}
 use Rattle.law_refinement.specs.Carrying.{behind, stepped}
 use Rattle.law_refinement.specs.Events.{IsRunning, IsServed}
 use Rattle.law_refinement.proofs.Places.{set_here}
-use Rattle.mr_headline.specs.Runs.{Happens}
+use Rattle.law_refinement.specs.Runs.{Happens}
 use Rattle.mr_world_parts.specs.AtNode.{is_spent}
 use Rattle.mr_world_parts.specs.Answering.{IsBehind}
 use Rattle.mr_world_parts.specs.declared.side.Side.TheVariants as side

@@ -19,7 +19,7 @@ use Rattle.law_refinement.specs.Carrying.{behind, broken, opened, opened_link, p
 use Rattle.law_refinement.specs.Events.{IsRunning}
 use Rattle.law_refinement.proofs.Reading.{number_or}
 use Rattle.law_refinement.proofs.Places.{push_here, set_here, set_there, some_is}
-use Rattle.mr_headline.specs.Runs.{Happens}
+use Rattle.law_refinement.specs.Runs.{Happens}
 use Rattle.mr_world_parts.specs.AtNode.{is_spent}
 use Rattle.mr_world_parts.specs.Answering.{EndsAs}
 use Rattle.mr_world_parts.specs.declared.side.Side.{Side}

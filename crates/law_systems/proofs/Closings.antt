@@ -17,7 +17,7 @@ use Rattle.law_refinement.specs.Worlds.{IsWorld}
 use Rattle.law_refinement.specs.Events.{IsRunning}
 use Rattle.law_refinement.specs.Carrying.{put_node}
 use Rattle.law_refinement.proofs.Places.{set_here, set_same}
-use Rattle.mr_headline.specs.Runs.{Happens, Run, last_of}
+use Rattle.law_refinement.specs.Runs.{Happens, Run, last_of}
 use Rattle.mr_world_parts.proofs.Places.{set_twice}
 use Rattle.mr_world.proofs.Kept.{reads_without}
 use Rattle.law_servers.specs.Calling.{break}

@@ -22,7 +22,7 @@ use Rattle.law_refinement.specs.State.{Link, Slot, WorldState, a_node}
 use Rattle.law_refinement.specs.Worlds.{IsWorld}
 use Rattle.law_refinement.specs.Carrying.{connecting, waiting_link}
 use Rattle.law_refinement.proofs.Places.{is_within, some_is}
-use Rattle.mr_headline.specs.Runs.{Happens}
+use Rattle.law_refinement.specs.Runs.{Happens}
 use Rattle.mr_world_parts.specs.AtNode.{is_spent}
 use Rattle.mr_world_parts.specs.declared.side.Side.{Side}
 use Rattle.mr_world_parts.specs.declared.side.Side.TheVariants as side

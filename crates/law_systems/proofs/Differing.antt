@@ -8,8 +8,8 @@ use Rattle.mr_node_spec.specs.State.{Core, NodeState}
 use Rattle.law_refinement.specs.State.{Slot, WorldState}
 use Rattle.law_refinement.specs.Worlds.{no_world}
 use Rattle.law_refinement.proofs.Beginning.{worlds_begin}
-use Rattle.mr_headline.specs.Showing as world
-use Rattle.mr_headline.proofs.Moments.{no_silent_difference}
+use Rattle.law_refinement.specs.Showing as world
+use Rattle.law_refinement.proofs.Moments.{no_silent_difference}
 use Rattle.mr_loop.specs.Stage.{Stage}
 use Rattle.law_systems.specs.System.{Doing, System, gives_up, is_taken, no_system, rests, runs}
 use Rattle.law_systems.specs.Steps.{Course, Step}

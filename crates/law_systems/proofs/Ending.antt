@@ -18,7 +18,7 @@ use Rattle.law_refinement.specs.Worlds.{IsWorld}
 use Rattle.law_refinement.specs.Carrying.{broken, put_node}
 use Rattle.law_refinement.specs.Events.{IsRunning}
 use Rattle.law_refinement.proofs.Places.{set_same, some_is}
-use Rattle.mr_headline.specs.Runs as run
+use Rattle.law_refinement.specs.Runs as run
 use Rattle.mr_world_parts.specs.AtNode.{is_spent}
 use Rattle.mr_world_parts.specs.declared.side.Side.{Side}
 use Rattle.mr_world_parts.specs.declared.side.Side.TheVariants as side

@@ -9,7 +9,7 @@ use Rattle.law_refinement.specs.State.{Link, Slot, WorldState}
 use Rattle.law_refinement.specs.Worlds.{IsWorld}
 use Rattle.law_refinement.specs.Carrying.{put_node}
 use Rattle.law_refinement.proofs.Places.{set_cases, set_here, set_there}
-use Rattle.mr_headline.specs.Runs.{Happens}
+use Rattle.law_refinement.specs.Runs.{Happens}
 use Rattle.mr_world_parts.specs.AtNode.{is_spent}
 use Rattle.mr_world_parts.specs.declared.side.Side.{Side}
 use Rattle.law_servers.specs.Worlds.{Halts}

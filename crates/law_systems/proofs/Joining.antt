@@ -31,7 +31,7 @@ use Rattle.law_refinement.proofs.Others.{KeepsEnds, all_seen, served_end}
 use Rattle.law_refinement.proofs.Places.{push_here, set_here, some_is}
 use Rattle.law_refinement.proofs.Reading.{node_is, still_at}
 use Rattle.law_refinement.proofs.Seen.{same_each}
-use Rattle.mr_headline.specs.Runs as run
+use Rattle.law_refinement.specs.Runs as run
 use Rattle.mr_world_parts.specs.AtNode.{is_spent}
 use Rattle.mr_world_parts.specs.declared.side.Side.{Side}
 use Rattle.mr_world_parts.specs.declared.side.Side.TheVariants as side

@@ -9,7 +9,7 @@ use Rattle.mr_loop.specs.Giving.{taken_by}
 use Rattle.law_refinement.specs.Way.{WayState}
 use Rattle.law_refinement.specs.State.{Link, Slot, WorldState, a_client, a_node}
 use Rattle.law_refinement.specs.Worlds.{IsWorld}
-use Rattle.mr_headline.specs.Runs.{Run, last_of}
+use Rattle.law_refinement.specs.Runs.{Run, last_of}
 use Rattle.mr_world_parts.specs.AtNode.{is_spent}
 use Rattle.mr_world_parts.specs.declared.side.Side.{Side}
 use Rattle.mr_world_parts.specs.declared.side.Side.TheVariants as side

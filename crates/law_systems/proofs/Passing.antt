@@ -3,8 +3,8 @@ use Rattle.std.proofs.Common.{◌≡◌, ◌+◌, ◌++◌, ℕ, zero, suc, List
 use Rattle.std.specs.Prelude.{slice_get}
 use Rattle.law_refinement.specs.State.{WorldState}
 use Rattle.law_refinement.proofs.Places.{some_is}
-use Rattle.mr_headline.specs.Runs.{Run, last_of}
-use Rattle.mr_headline.proofs.Moments.{runs_go_on}
+use Rattle.law_refinement.specs.Runs.{Run, last_of}
+use Rattle.law_refinement.proofs.Moments.{runs_go_on}
 use Rattle.law_systems.specs.System.{System}
 use Rattle.law_systems.specs.Steps.{Course, Step}
 use Rattle.law_systems.proofs.Mirrors.{Leads, Mirrors}

@@ -15,7 +15,7 @@ use Rattle.law_refinement.specs.State.{WorldState}
 use Rattle.law_refinement.specs.Worlds.{IsWorld}
 use Rattle.law_refinement.specs.Carrying.{put_node}
 use Rattle.law_refinement.proofs.Linking.{open_stops}
-use Rattle.mr_headline.specs.Runs.{Happens, an_event}
+use Rattle.law_refinement.specs.Runs.{Happens, an_event}
 use Rattle.mr_world.proofs.Kept.{stops_world}
 use Rattle.law_systems.specs.System.{System, gives_up, is_taken}
 use Rattle.law_systems.proofs.Wired.{IsWired}

@@ -18,7 +18,7 @@ use Rattle.law_refinement.specs.State.{Slot, WorldState}
 use Rattle.law_refinement.specs.Worlds.{IsWorld}
 use Rattle.law_refinement.specs.Carrying.{behind, reached, said_on, ticked}
 use Rattle.law_refinement.proofs.Places.{set_here}
-use Rattle.mr_headline.specs.Runs.{Happens}
+use Rattle.law_refinement.specs.Runs.{Happens}
 use Rattle.mr_world.specs.Stepping.{Ticks}
 use Rattle.mr_world.specs.declared.event.Event.TheVariants as event
 use Rattle.law_servers.specs.Calling.{tick}

@@ -26,7 +26,7 @@ use Rattle.law_refinement.specs.State.{Caller, Link, Slot, WorldState, a_node}
 use Rattle.law_refinement.specs.Worlds.{HasMaster, IsWorld}
 use Rattle.law_refinement.specs.Carrying.{put_node}
 use Rattle.law_refinement.proofs.Places.{set_here, set_same, some_is}
-use Rattle.mr_headline.specs.Runs.{Happens}
+use Rattle.law_refinement.specs.Runs.{Happens}
 use Rattle.mr_world_parts.specs.AtLink.{by_node}
 use Rattle.mr_world_parts.specs.AtNode.{is_spent}
 use Rattle.mr_world_parts.specs.declared.side.Side.TheVariants as side

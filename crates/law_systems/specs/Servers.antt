@@ -6,7 +6,7 @@ use Rattle.mr_node_spec.specs.State.{NodeState, started}
 use Rattle.mr_node_spec.specs.Sound.{IsSound}
 use Rattle.mr_loop.specs.Stage.{Stage}
 use Rattle.law_refinement.specs.State.{Slot, WorldState}
-use Rattle.mr_headline.specs.Runs.{IsMoment}
+use Rattle.law_refinement.specs.Runs.{IsMoment}
 use Rattle.law_systems.specs.System.{Doing, Server, System, gives_up, is_taken, no_system, rests, runs}
 use Rattle.law_systems.specs.Steps.{Course}
 

@@ -20,7 +20,7 @@ use Rattle.mr_effect.specs.declared.effect.Effect.{Effect}
 use Rattle.mr_effect.specs.declared.effect.Effect.TheVariants as effect
 use Rattle.mr_data.specs.Meaning.{apply, apply_all}
 use Rattle.mr_data.specs.Rebuilding.{rebuilding, rebuilt}
-use Rattle.mr_replay.specs.Effects.{IsGoodEffect, Makes}
+use Rattle.mr_groups.specs.Effects.{IsGoodEffect, Makes}
 use Rattle.mr_groups.specs.Folding.{apply_groups}
 use Rattle.mr_groups.specs.Items.{IsGoodItem, Item}
 use Rattle.mr_node_spec.specs.Growing.{Remakes}

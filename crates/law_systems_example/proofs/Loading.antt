@@ -15,7 +15,7 @@ use Rattle.mr_follower.specs.Rows.{Answers, Installs}
 use Rattle.mr_follower.specs.State.{FollowState}
 use Rattle.mr_follower.specs.declared.phase.Phase.TheVariants as phase
 use Rattle.mr_follower.proofs.Stepping.{untaken}
-use Rattle.mr_replay.specs.Effects.{Makes}
+use Rattle.mr_groups.specs.Effects.{Makes}
 use Rattle.mr_replication.specs.State.{CourseState, adopts, reads_on}
 use Rattle.mr_replication.specs.declared.upstream.UpstreamStep.TheVariants as outcome
 use Rattle.mr_node_links.specs.State.EndState.{upstream}

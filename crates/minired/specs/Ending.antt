@@ -2,7 +2,7 @@
 use Rattle.std.specs.Prelude.{ℕ, Bool, true, false}
 use Rattle.mr_loop.specs.declared.fault.LoopFault.TheVariants as loop
 use Rattle.mr_options.specs.declared.fault.UsageFault.TheVariants as usage
-use Rattle.mr_console.specs.declared.fault.TrioFault.TheVariants as trio
+use Rattle.mr_trio_script.specs.declared.fault.TrioFault.TheVariants as trio
 use Rattle.minired.specs.declared.failure.Failure.{Failure}
 use Rattle.minired.specs.declared.failure.Failure.TheVariants.{Usage, Pipe, Loop, Stream, Trio, Listen, File, Random, Memory}
 

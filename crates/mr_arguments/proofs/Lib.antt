@@ -7,3 +7,4 @@ pub mod OrderLemmas
 pub mod OrderedLemmas
 pub mod ReadLemmas
 pub mod FaultPlaces
+pub mod ExpiryLemmas

@@ -7,3 +7,6 @@ pub mod Options
 pub mod Spelling
 pub mod Askable
 pub mod FaultOrder
+pub mod Amounts
+pub mod Expiry
+pub mod AskableAmounts

@@ -31,7 +31,7 @@ use Rattle.mr_cmd_string.specs.Parts.{milliseconds, opposite, seconds}
 use Rattle.mr_cmd_key.specs.Parts.{timing_of}
 use Rattle.mr_cmd_server.specs.Arguments.{database, saving_of, setinfo, setname}
 use Rattle.mr_ask.specs.WordFaults.{argument_faults, faults_behind, word_faults}
-use Rattle.mr_expiry.specs.declared.expiry.ExpiryUnit.TheVariants as unit
+use Rattle.mr_arguments.specs.declared.expiry.ExpiryUnit.TheVariants as unit
 use Rattle.mr_cmd_key.specs.declared.key_ask.Databases.TheVariants as databases
 use Rattle.mr_cmd_key.specs.declared.key_ask.KeyAsk.TheVariants as key
 use Rattle.mr_cmd_string.specs.declared.text_ask.Amount.TheVariants as amount

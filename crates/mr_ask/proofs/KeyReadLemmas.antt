@@ -10,7 +10,7 @@ use Rattle.mr_ask.specs.Asks.{of_kind, reading}
 use Rattle.mr_cmd_key.specs.Called.{key_name}
 use Rattle.mr_cmd_key.specs.Carried.{key_words}
 use Rattle.mr_cmd_key.specs.Spelled.{key_parts, AreOfKeys}
-use Rattle.mr_expiry.specs.declared.expiry.Expiry.TheVariants.{Seconds, Milliseconds, AtSecond, AtMillisecond}
+use Rattle.mr_arguments.specs.declared.expiry.Expiry.TheVariants.{Seconds, Milliseconds, AtSecond, AtMillisecond}
 use Rattle.mr_cmd_key.specs.declared.key_ask.Databases.TheVariants as databases
 use Rattle.mr_cmd_key.specs.declared.key_ask.KeyAsk.{KeyAsk}
 use Rattle.mr_cmd_key.specs.declared.key_ask.KeyAsk.TheVariants as key

@@ -15,7 +15,7 @@ use Rattle.mr_arguments.specs.declared.name.Name.{Name}
 use Rattle.mr_arguments.specs.declared.name.Name.TheVariants as name
 use Rattle.mr_arguments.specs.declared.fault.AskFault.{AskFault}
 use Rattle.mr_arguments.specs.declared.fault.AskFault.TheVariants.{Unknown}
-use Rattle.mr_expiry.specs.declared.expiry.ExpiryUnit.TheVariants as unit
+use Rattle.mr_arguments.specs.declared.expiry.ExpiryUnit.TheVariants as unit
 use Rattle.mr_cmd_string.specs.declared.text_ask.Amount.TheVariants as amount
 use Rattle.mr_cmd_key.specs.declared.key_ask.Databases.TheVariants as databases
 use Rattle.mr_cmd_hash.specs.declared.hash_ask.FieldsReply.TheVariants.{Added, Done}

@@ -13,7 +13,7 @@ use Rattle.mr_arguments.specs.declared.name.Name.{Name}
 use Rattle.mr_arguments.specs.declared.name.Name.TheVariants as name
 use Rattle.mr_arguments.specs.declared.fault.AskFault.{AskFault}
 use Rattle.mr_arguments.specs.declared.fault.AskFault.TheVariants.{Unknown}
-use Rattle.mr_expiry.specs.declared.expiry.ExpiryUnit.TheVariants as unit
+use Rattle.mr_arguments.specs.declared.expiry.ExpiryUnit.TheVariants as unit
 use Rattle.mr_cmd_string.specs.ArgumentFaults.{key_value_options}
 use Rattle.mr_cmd_key.specs.ArgumentFaults.{cursor_and_options, time_and_condition, timing_alone}
 use Rattle.mr_cmd_server.specs.ArgumentFaults.{of_client, saving_alone}

@@ -11,7 +11,7 @@ ghost use Rattle.mr_ask.specs.Kinds as kind;
 ghost use Rattle.mr_ask.specs.declared.ask.Ask.TheVariants as ask;
 
 use crate::ask::Ask;
-use mr_arguments::{Arguments, AskFault, Name};
+use mr_arguments::{Arguments, AskFault, ExpiryUnit, Name};
 use mr_bytes::End;
 use mr_cmd_hash::{FieldsReply, HashAsk, HashPart, arguments as hashes};
 use mr_cmd_key::{Databases, KeyAsk, arguments as keys};
@@ -21,7 +21,6 @@ use mr_cmd_server::{ServerAsk, arguments as server};
 use mr_cmd_set::{SetAsk, SetOperation, arguments as sets};
 use mr_cmd_string::{Amount, TextAsk, arguments as texts};
 use mr_cmd_zset::{ZSetAsk, arguments as zset};
-use mr_expiry::ExpiryUnit;
 use mr_zset_options::Order;
 use std::borrow::CowSlice;
 

@@ -5,7 +5,7 @@ use Rattle.std.proofs.lemmas.List.Sorted.{IsPermutation-refl, IsPermutation-midd
 use Rattle.mr_arguments.specs.Pairing.{unpaired}
 use Rattle.std.specs.Fmt.{signed_decimal}
 use Rattle.mr_cmd_key.specs.Parts.{positive_if_any, key_expiry}
-use Rattle.mr_expiry.specs.Expiry.{said, number_said}
+use Rattle.mr_arguments.specs.Expiry.{said, number_said}
 use Rattle.mr_arguments.specs.Options.{added}
 use Rattle.mr_cmd_key.specs.Options.{scan_text, no_scan_options, scan_also, scan_pair, scan_options, condition_if_any}
 use Rattle.mr_cmd_key.specs.Options as options
@@ -16,7 +16,7 @@ use Rattle.mr_cmd_key.specs.Spelled.{scan_option, KeySpells}
 use Rattle.mr_arguments.proofs.FitLemmas.{all_words}
 use Rattle.mr_arguments.proofs.PartLemmas.{with_ok, if_with, if_ok, with_pairs}
 use Rattle.mr_cmd_key.proofs.PartLemmas.{with_cursor, with_timing, positive_count, scan_option_text, condition_read, key_expiry_read}
-use Rattle.mr_expiry.proofs.ExpiryLemmas.{number_is}
+use Rattle.mr_arguments.proofs.ExpiryLemmas.{number_is}
 use Rattle.mr_arguments.proofs.OptionLemmas.{all_added, from_none, each_pair}
 use Rattle.mr_arguments.specs.declared.name.Name.{Name}
 use Rattle.mr_arguments.specs.declared.name.Name.TheVariants as name
@@ -24,8 +24,8 @@ use Rattle.mr_cmd_key.specs.declared.key_ask.Databases.{Databases}
 use Rattle.mr_cmd_key.specs.declared.key_ask.Timing.{Timing}
 use Rattle.mr_cmd_key.specs.declared.key_ask.KeyAsk.TheVariants as key
 use Rattle.mr_cmd_key.specs.declared.key_ask.ExpireCondition.{ExpireCondition}
-use Rattle.mr_expiry.specs.declared.expiry.Expiry.{Expiry}
-use Rattle.mr_expiry.specs.declared.expiry.ExpiryUnit.{ExpiryUnit}
+use Rattle.mr_arguments.specs.declared.expiry.Expiry.{Expiry}
+use Rattle.mr_arguments.specs.declared.expiry.ExpiryUnit.{ExpiryUnit}
 use Rattle.mr_arguments.specs.declared.fault.AskFault.TheVariants.{Syntax}
 use Rattle.mr_cmd_key.specs.declared.options.ScanOption.{ScanOption}
 use Rattle.mr_cmd_key.specs.declared.options.ScanOption.TheVariants as scans

@@ -12,12 +12,12 @@ use Rattle.mr_arguments.specs.declared.fault.AskFault.{AskFault}
 use Rattle.mr_arguments.specs.declared.fault.AskFault.TheVariants.{Syntax, Integer, ExpireTime, Other}
 use Rattle.mr_arguments.specs.declared.fault.BadValue.TheVariants as bad
 use Rattle.mr_arguments.specs.declared.fault.ExpiringCommand.{ExpiringCommand}
-use Rattle.mr_expiry.specs.Expiry.{expiry_of}
+use Rattle.mr_arguments.specs.Expiry.{expiry_of}
 use Rattle.mr_cmd_key.specs.Options.{condition_if_any, expire_condition, scan_options}
 use Rattle.mr_cmd_key.specs.Parts.{cursor_at, cursor_of, expiring, key_expiry, kind_of, positive_if_any}
 use Rattle.mr_cmd_key.proofs.ScanOrderLemmas.{scan_options_only}
 use Rattle.mr_cmd_key.specs.ArgumentFaults.{in_scan_options, cursor_and_options, time_and_condition}
-use Rattle.mr_expiry.specs.declared.expiry.ExpiryUnit.{ExpiryUnit}
+use Rattle.mr_arguments.specs.declared.expiry.ExpiryUnit.{ExpiryUnit}
 use Rattle.mr_cmd_key.specs.declared.options.ScanOptions.{ScanOptions}
 use Rattle.mr_cmd_key.specs.declared.key_ask.Cursor.{Cursor}
 use Rattle.mr_cmd_key.specs.declared.key_ask.KeyAsk.{KeyAsk}

@@ -8,7 +8,7 @@ use Rattle.mr_bytes.specs.Words.{fits}
 use Rattle.mr_resp.specs.Replies as reply
 use Rattle.mr_keyspace.specs.Dataset.{Dataset}
 use Rattle.mr_cmd_key.specs.Carried.{key_words}
-use Rattle.mr_expiry.specs.Expiry.{deadline_at}
+use Rattle.mr_arguments.specs.Expiry.{deadline_at}
 use Rattle.mr_cmd_key.specs.declared.key_ask.KeyAsk.{KeyAsk}
 use Rattle.mr_cmd_key.specs.declared.key_ask.KeyAsk.TheVariants as ask
 use Rattle.mr_cmd_shared.specs.Keys.{chosen, without, dels}

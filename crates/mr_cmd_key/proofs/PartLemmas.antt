@@ -11,15 +11,15 @@ use Rattle.mr_bytes.proofs.Numbers.{same_bytes, number_text}
 use Rattle.mr_arguments.specs.Names.{lowered}
 use Rattle.mr_arguments.specs.Parts.{with, integer, not_below_1}
 use Rattle.mr_cmd_key.specs.Parts.{positive, positive_if_any, cursor_at, cursor_of, timing_text, timing_of, expiring, key_expiry}
-use Rattle.mr_expiry.specs.Expiry.{within_limit, said}
+use Rattle.mr_arguments.specs.Expiry.{within_limit, said}
 use Rattle.mr_cmd_key.specs.Options.{expire_text, scan_text, is_expire_condition, all_expire_conditions, expire_condition, condition_if_any, scan_option}
 use Rattle.mr_arguments.specs.Spelling.{IsPart, IsPositive, AreParts}
 use Rattle.mr_cmd_key.specs.Spelled.{cursor_part, expire_part}
 use Rattle.mr_arguments.specs.declared.fault.AskFault.{AskFault}
 use Rattle.mr_arguments.specs.declared.fault.AskFault.TheVariants.{Syntax, Other}
 use Rattle.mr_arguments.specs.declared.fault.BadValue.TheVariants as bad
-use Rattle.mr_expiry.specs.declared.expiry.Expiry.{Expiry}
-use Rattle.mr_expiry.specs.declared.expiry.ExpiryUnit.{ExpiryUnit}
+use Rattle.mr_arguments.specs.declared.expiry.Expiry.{Expiry}
+use Rattle.mr_arguments.specs.declared.expiry.ExpiryUnit.{ExpiryUnit}
 use Rattle.mr_cmd_key.specs.declared.key_ask.ExpireCondition.{ExpireCondition}
 use Rattle.mr_cmd_key.specs.declared.key_ask.Cursor.{Cursor}
 use Rattle.mr_cmd_key.specs.declared.key_ask.Cursor.TheVariants.{Start, Behind}
@@ -27,7 +27,7 @@ use Rattle.mr_cmd_key.specs.declared.key_ask.Timing.{Timing}
 use Rattle.mr_cmd_key.specs.declared.key_ask.Timing.TheVariants.{Later, Now}
 use Rattle.mr_cmd_key.specs.declared.options.ScanOption.{ScanOption}
 use Rattle.mr_cmd_key.specs.declared.options.ScanOption.TheVariants as scan
-use Rattle.mr_expiry.proofs.ExpiryLemmas.{within_read}
+use Rattle.mr_arguments.proofs.ExpiryLemmas.{within_read}
 
 from_1 : (w : List ℕ) (n m : ℤ) → not_below_1 Syntax n ≡ Ok m → (w ≡ signed_decimal n) × IsTrue (is_i64 n) → IsPositive w
 from_1 w (pos zero) m h e = cc

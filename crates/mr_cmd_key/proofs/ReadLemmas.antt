@@ -18,16 +18,16 @@ use Rattle.mr_arguments.proofs.ReadLemmas.{from_one, literals, one_part, two_fir
 use Rattle.mr_arguments.specs.declared.name.Name.{Name}
 use Rattle.mr_arguments.specs.declared.fault.AskFault.{AskFault}
 use Rattle.mr_arguments.specs.declared.fault.AskFault.TheVariants.{Syntax}
-use Rattle.mr_expiry.specs.Askable.{IsAmount}
-use Rattle.mr_expiry.specs.Expiry.{number_said, unit_said}
+use Rattle.mr_arguments.specs.AskableAmounts.{IsAmount}
+use Rattle.mr_arguments.specs.Expiry.{number_said, unit_said}
 use Rattle.mr_cmd_key.specs.Arguments.{clear, expire, scan}
 use Rattle.mr_cmd_key.specs.Options.{all_expire_conditions, condition_if_any, expire_text, is_expire_condition, no_scan_options, scan_also, scan_options, scan_pair, scan_text}
 use Rattle.mr_cmd_key.specs.Parts.{cursor_of, key_expiry, kind_of, positive, positive_if_any, timing_text}
 use Rattle.mr_cmd_key.specs.Spelled.{cursor_part, expire_part, AreOfScan}
 use Rattle.mr_cmd_key.specs.Spelled as spelled
 use Rattle.mr_cmd_key.proofs.ScanOrderLemmas.{scan_alike, scan_also_only}
-use Rattle.mr_expiry.specs.declared.expiry.Expiry.{Expiry}
-use Rattle.mr_expiry.specs.declared.expiry.Expiry.TheVariants.{Seconds, Milliseconds, AtSecond, AtMillisecond}
+use Rattle.mr_arguments.specs.declared.expiry.Expiry.{Expiry}
+use Rattle.mr_arguments.specs.declared.expiry.Expiry.TheVariants.{Seconds, Milliseconds, AtSecond, AtMillisecond}
 use Rattle.mr_cmd_key.specs.declared.key_ask.Cursor.{Cursor}
 use Rattle.mr_cmd_key.specs.declared.key_ask.Cursor.TheVariants.{Start, Behind}
 use Rattle.mr_cmd_key.specs.declared.key_ask.Databases.{Databases}

@@ -5,7 +5,7 @@ use Rattle.mr_cmd_key.specs.Options.{condition_if_any, scan_options}
 use Rattle.mr_cmd_key.specs.Parts.{cursor_of, key_expiry, positive_if_any, timing_of}
 use Rattle.mr_arguments.specs.declared.fault.AskFault.{AskFault}
 use Rattle.mr_arguments.specs.declared.fault.AskFault.TheVariants.{Syntax}
-use Rattle.mr_expiry.specs.declared.expiry.ExpiryUnit.{ExpiryUnit}
+use Rattle.mr_arguments.specs.declared.expiry.ExpiryUnit.{ExpiryUnit}
 use Rattle.mr_cmd_key.specs.declared.options.ScanOptions.{ScanOptions}
 
 abbrev pub timing_alone : List (List ℕ) → List AskFault

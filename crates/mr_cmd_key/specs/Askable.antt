@@ -2,7 +2,7 @@
 use Rattle.std.specs.Prelude.{◌≢◌, []}
 use Rattle.mr_cmd_key.specs.declared.key_ask.KeyAsk.{KeyAsk}
 use Rattle.mr_cmd_key.specs.declared.key_ask.KeyAsk.TheVariants as key
-use Rattle.mr_expiry.specs.Askable.{IsAmount}
+use Rattle.mr_arguments.specs.AskableAmounts.{IsAmount}
 
 abbrev pub KeyIsAskable : KeyAsk → Type 0
 KeyIsAskable (key.Del keys) = keys ≢ []

@@ -1,7 +1,7 @@
 -- The names of commands on keys.
 use Rattle.mr_arguments.specs.declared.name.Name.{Name}
 use Rattle.mr_arguments.specs.declared.name.Name.TheVariants as name
-use Rattle.mr_expiry.specs.declared.expiry.Expiry.TheVariants as expiry
+use Rattle.mr_arguments.specs.declared.expiry.Expiry.TheVariants as expiry
 use Rattle.mr_cmd_key.specs.declared.key_ask.Databases.TheVariants as databases
 use Rattle.mr_cmd_key.specs.declared.key_ask.KeyAsk.{KeyAsk}
 use Rattle.mr_cmd_key.specs.declared.key_ask.KeyAsk.TheVariants as key

@@ -1,7 +1,7 @@
 -- The commands on keys whatever they hold.
 use Rattle.std.specs.Prelude.{ℤ, [], ◌∷◌}
 use Rattle.mr_cmd_shared.specs.Commands.{Command, on_key, on_keys, on_none}
-use Rattle.mr_expiry.specs.Expiry.{deadline_at}
+use Rattle.mr_arguments.specs.Expiry.{deadline_at}
 use Rattle.mr_cmd_key.specs.declared.key_ask.KeyAsk.{KeyAsk}
 use Rattle.mr_cmd_key.specs.declared.key_ask.KeyAsk.TheVariants as ask
 use Rattle.mr_cmd_key.specs.Kinds.{type_answer}

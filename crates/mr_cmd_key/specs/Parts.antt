@@ -10,16 +10,16 @@ use Rattle.mr_arguments.specs.declared.fault.AskFault.TheVariants.{Syntax, Other
 use Rattle.mr_arguments.specs.declared.fault.BadValue.TheVariants as bad
 use Rattle.mr_arguments.specs.declared.fault.ExpiringCommand.{ExpiringCommand}
 use Rattle.mr_arguments.specs.declared.fault.ExpiringCommand.TheVariants.{Expire, PExpire, ExpireAt, PExpireAt}
-use Rattle.mr_expiry.specs.declared.expiry.Expiry.{Expiry}
-use Rattle.mr_expiry.specs.declared.expiry.ExpiryUnit.{ExpiryUnit}
-use Rattle.mr_expiry.specs.declared.expiry.ExpiryUnit.TheVariants as unit
+use Rattle.mr_arguments.specs.declared.expiry.Expiry.{Expiry}
+use Rattle.mr_arguments.specs.declared.expiry.ExpiryUnit.{ExpiryUnit}
+use Rattle.mr_arguments.specs.declared.expiry.ExpiryUnit.TheVariants as unit
 use Rattle.mr_cmd_key.specs.declared.key_ask.Cursor.{Cursor}
 use Rattle.mr_cmd_key.specs.declared.key_ask.Cursor.TheVariants.{Start, Behind}
 use Rattle.mr_cmd_key.specs.declared.key_ask.KindName.{KindName}
 use Rattle.mr_cmd_key.specs.declared.key_ask.KindName.TheVariants as kind
 use Rattle.mr_cmd_key.specs.declared.key_ask.Timing.{Timing}
 use Rattle.mr_cmd_key.specs.declared.key_ask.Timing.TheVariants.{Later, Now}
-use Rattle.mr_expiry.specs.Expiry.{within_limit}
+use Rattle.mr_arguments.specs.Expiry.{within_limit}
 
 abbrev pub positive : List ℕ → Result ℤ AskFault
 positive word = with (integer word) (not_below_1 Syntax)

@@ -3,7 +3,7 @@ use Rattle.std.specs.Prelude.{◌≡◌, ℕ, pos, List, [], ◌∷◌, ◌++◌
 use Rattle.mr_arguments.specs.Spelling.{Part, Word, Number, Keyword, Positive, IsPositive, AreParts, AreWithOptions, NameAndArguments}
 use Rattle.mr_cmd_key.specs.Carried.{key_words}
 use Rattle.mr_cmd_key.specs.Parts.{timing_text, kind_of}
-use Rattle.mr_expiry.specs.Expiry.{number_said}
+use Rattle.mr_arguments.specs.Expiry.{number_said}
 use Rattle.mr_cmd_key.specs.Options.{expire_text, scan_text}
 use Rattle.mr_cmd_key.specs.declared.options.ScanOption.{ScanOption}
 use Rattle.mr_cmd_key.specs.declared.options.ScanOption.TheVariants as scan

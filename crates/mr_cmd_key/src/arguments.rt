@@ -6,8 +6,7 @@ ghost use Rattle.mr_cmd_key.specs.Arguments.{del, unlink, exists, key_type, keys
 use crate::key_ask::{Databases, ExpireCondition, KeyAsk};
 use crate::options::ScanOptions;
 use crate::parts::{cursor_of, key_expiry, kind_if_any, positive_if_any, timing_of};
-use mr_arguments::{Argument, Arguments, AskFault, Name, Words};
-use mr_expiry::ExpiryUnit;
+use mr_arguments::{Argument, Arguments, AskFault, ExpiryUnit, Name, Words};
 
 type Reading<'a, 't> = Result<KeyAsk<'a, 't>, AskFault>;
 

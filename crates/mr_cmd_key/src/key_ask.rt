@@ -1,6 +1,5 @@
 // Commands on keys of any kind, with their arguments.
-use mr_arguments::{Argument, Words};
-use mr_expiry::Expiry;
+use mr_arguments::{Argument, Expiry, Words};
 
 /// A command on keys of any kind, with its arguments.
 #[derive(Drop)]

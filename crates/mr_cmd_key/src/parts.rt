@@ -6,12 +6,14 @@ ghost use Rattle.std.specs.Str.{bytes_eq};
 ghost use Rattle.mr_arguments.specs.Names.{lowered};
 ghost use Rattle.mr_arguments.specs.Parts.{not_below_1};
 ghost use Rattle.mr_cmd_key.specs.Parts.{positive, positive_if_any, cursor_at, cursor_of, timing_of, timing_text, is_kind, kind_of, expiring, key_expiry};
-ghost use Rattle.mr_expiry.specs.Expiry.{within_limit};
+ghost use Rattle.mr_arguments.specs.Expiry.{within_limit};
 
 use crate::key_ask::{Cursor, KindName, Timing};
-use mr_arguments::{Argument, AskFault, BadValue, ExpiringCommand, integer, not_below_1};
+use mr_arguments::{
+    Argument, AskFault, BadValue, ExpiringCommand, Expiry, ExpiryUnit, integer, not_below_1,
+    within_limit,
+};
 use mr_bytes::read_i64;
-use mr_expiry::{Expiry, ExpiryUnit, within_limit};
 use std::borrow::CowSlice;
 
 /// A number from 1 on, where there is one.

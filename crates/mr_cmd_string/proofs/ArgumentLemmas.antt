@@ -25,7 +25,7 @@ use Rattle.mr_cmd_string.specs.declared.options.SetOption.TheVariants as option
 use Rattle.mr_cmd_string.specs.declared.options.SetOptions.{SetOptions}
 use Rattle.mr_cmd_string.specs.declared.options.LifetimeOption.{LifetimeOption}
 use Rattle.mr_cmd_string.specs.declared.options.LifetimeOption.TheVariants as lifetime
-use Rattle.mr_expiry.specs.declared.expiry.ExpiryUnit.{ExpiryUnit}
+use Rattle.mr_arguments.specs.declared.expiry.ExpiryUnit.{ExpiryUnit}
 
 pub get_carries : (ws : List (List ℕ)) → IfOk (get ws) (TextSpells name.Get ws)
 get_carries (k ∷ []) = record { name_is = refl; parts = (refl, tt) }

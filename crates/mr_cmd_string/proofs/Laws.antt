@@ -21,11 +21,11 @@ use Rattle.mr_effect.specs.declared.effect.Effect.TheVariants as effect
 use Rattle.mr_keyspace.specs.Steps.{deadline_of}
 use Rattle.mr_data.specs.Given.{IsMoment}
 use Rattle.mr_effect.specs.Effects.{is_deadline}
-use Rattle.mr_expiry.specs.Amounts.{is_amount, of_seconds}
-use Rattle.mr_expiry.specs.Expiry.{deadline_at}
+use Rattle.mr_arguments.specs.Amounts.{is_amount, of_seconds}
+use Rattle.mr_arguments.specs.Expiry.{deadline_at}
 use Rattle.mr_cmd_string.specs.Carried.{text_words, IsTime, IsTimed}
-use Rattle.mr_expiry.specs.declared.expiry.Expiry.{Expiry}
-use Rattle.mr_expiry.specs.declared.expiry.Expiry.TheVariants as expiry
+use Rattle.mr_arguments.specs.declared.expiry.Expiry.{Expiry}
+use Rattle.mr_arguments.specs.declared.expiry.Expiry.TheVariants as expiry
 use Rattle.mr_cmd_string.specs.declared.text_ask.Lifetime.{Lifetime}
 use Rattle.mr_cmd_string.specs.declared.text_ask.Lifetime.TheVariants.{Endless, Kept, Until}
 use Rattle.mr_cmd_string.specs.declared.text_ask.TextAsk.{TextAsk}

@@ -9,8 +9,8 @@ use Rattle.mr_bytes.proofs.Numbers.{same_bytes}
 use Rattle.mr_arguments.specs.Names.{lowered}
 use Rattle.mr_arguments.specs.Parts.{with, integer, not_below_1}
 use Rattle.mr_cmd_string.specs.Parts.{opposite, seconds, milliseconds, set_expiry, lifetime_if_any}
-use Rattle.mr_expiry.specs.Expiry.{within_limit, said, number_said}
-use Rattle.mr_expiry.specs.Amounts.{is_amount, of_seconds, seconds_of, milliseconds_of}
+use Rattle.mr_arguments.specs.Expiry.{within_limit, said, number_said}
+use Rattle.mr_arguments.specs.Amounts.{is_amount, of_seconds, seconds_of, milliseconds_of}
 use Rattle.mr_cmd_string.specs.Options.{set_text, unit_text, is_set_option, all_set_options, set_option, is_unit, all_units, unit_of}
 use Rattle.mr_arguments.specs.Spelling.{Part, Number, Keyword}
 use Rattle.mr_cmd_string.specs.Spelled.{lifetime_option}
@@ -18,15 +18,15 @@ use Rattle.mr_arguments.specs.declared.fault.AskFault.{AskFault}
 use Rattle.mr_arguments.specs.declared.fault.AskFault.TheVariants.{Syntax, ExpireTime, Other}
 use Rattle.mr_arguments.specs.declared.fault.BadValue.TheVariants as bad
 use Rattle.mr_arguments.specs.declared.fault.ExpiringCommand.TheVariants.{Set, SetEx, PSetEx}
-use Rattle.mr_expiry.specs.declared.expiry.Expiry.{Expiry}
-use Rattle.mr_expiry.specs.declared.expiry.ExpiryUnit.{ExpiryUnit}
+use Rattle.mr_arguments.specs.declared.expiry.Expiry.{Expiry}
+use Rattle.mr_arguments.specs.declared.expiry.ExpiryUnit.{ExpiryUnit}
 use Rattle.mr_cmd_string.specs.declared.text_ask.Lifetime.{Lifetime}
 use Rattle.mr_cmd_string.specs.declared.text_ask.Lifetime.TheVariants.{Endless, Kept, Until}
 use Rattle.mr_cmd_string.specs.declared.options.LifetimeOption.{LifetimeOption}
 use Rattle.mr_cmd_string.specs.declared.options.LifetimeOption.TheVariants as lifetime
 use Rattle.mr_cmd_string.specs.declared.options.SetOption.{SetOption}
 use Rattle.mr_cmd_string.specs.declared.options.SetOption.TheVariants as set
-use Rattle.mr_expiry.proofs.ExpiryLemmas.{limit_passed, number_is, unit_is, within_read}
+use Rattle.mr_arguments.proofs.ExpiryLemmas.{limit_passed, number_is, unit_is, within_read}
 
 pub with_opposite : {A : Type 0} (n : ℤ) (next : ℤ → Result A AskFault) (P : A → Type 0)
     → ((m : ℤ) → n ≡ neg_ℤ m → IfOk (next m) P) → IfOk (with (opposite n) next) P

@@ -14,15 +14,15 @@ use Rattle.mr_arguments.proofs.ReadLemmas.{from_one, number_part_of, number_part
 use Rattle.mr_arguments.specs.declared.fault.AskFault.{AskFault}
 use Rattle.mr_arguments.specs.declared.fault.AskFault.TheVariants.{Syntax}
 use Rattle.mr_cmd_string.specs.Askable.{IsLifetime, TextIsAskable}
-use Rattle.mr_expiry.specs.Expiry.{number_said, unit_said}
+use Rattle.mr_arguments.specs.Expiry.{number_said, unit_said}
 use Rattle.mr_cmd_string.specs.Options.{all_set_options, all_units, is_set_option, is_unit, lifetime_also, no_set_options, set_also, set_options, set_text, unit_of, unit_text, until}
 use Rattle.mr_cmd_string.specs.Parts.{lifetime_if_any}
 use Rattle.mr_cmd_string.specs.Spelled.{condition_option, lifetime_option, reply_option, AreOfTexts}
 use Rattle.mr_cmd_string.proofs.PartLemmas.{lifetime_words}
 use Rattle.mr_cmd_string.proofs.SetOrderLemmas.{alike, lifetime_alike, one_step}
-use Rattle.mr_expiry.specs.declared.expiry.Expiry.TheVariants.{Seconds, Milliseconds, AtSecond, AtMillisecond}
-use Rattle.mr_expiry.specs.declared.expiry.ExpiryUnit.{ExpiryUnit}
-use Rattle.mr_expiry.specs.declared.expiry.ExpiryUnit.TheVariants as unit
+use Rattle.mr_arguments.specs.declared.expiry.Expiry.TheVariants.{Seconds, Milliseconds, AtSecond, AtMillisecond}
+use Rattle.mr_arguments.specs.declared.expiry.ExpiryUnit.{ExpiryUnit}
+use Rattle.mr_arguments.specs.declared.expiry.ExpiryUnit.TheVariants as unit
 use Rattle.mr_cmd_string.specs.declared.options.LifetimeOption.{LifetimeOption}
 use Rattle.mr_cmd_string.specs.declared.options.LifetimeOption.TheVariants as lifetime
 use Rattle.mr_cmd_string.specs.declared.options.SetOption.{SetOption}

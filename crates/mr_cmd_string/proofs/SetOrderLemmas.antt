@@ -7,7 +7,7 @@ use Rattle.mr_arguments.proofs.OrderLemmas.{with_joined, with_same, OnlySyntax, 
 use Rattle.mr_arguments.specs.declared.fault.AskFault.{AskFault}
 use Rattle.mr_arguments.specs.declared.fault.AskFault.TheVariants.{Syntax}
 use Rattle.mr_cmd_string.specs.Options.{AreOneOption, before_also, lifetime_also, number_then, set_also, set_option, set_options, set_word, unit_of, until}
-use Rattle.mr_expiry.specs.declared.expiry.ExpiryUnit.{ExpiryUnit}
+use Rattle.mr_arguments.specs.declared.expiry.ExpiryUnit.{ExpiryUnit}
 use Rattle.mr_cmd_string.specs.declared.options.LifetimeOption.{LifetimeOption}
 use Rattle.mr_cmd_string.specs.declared.options.LifetimeOption.TheVariants as lifetime
 use Rattle.mr_cmd_string.specs.declared.options.SetOption.{SetOption}

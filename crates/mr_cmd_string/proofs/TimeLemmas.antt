@@ -4,21 +4,21 @@ use Rattle.std.specs.Prelude.{int_le, IsTrue, IfOk, Ok}
 use Rattle.std.specs.Option.{ok_or}
 use Rattle.std.proofs.lemmas.Bool.Decides.{nat_tests}
 use Rattle.mr_arguments.specs.Parts.{with, integer, not_below_1}
-use Rattle.mr_expiry.specs.Expiry.{within_limit, said}
+use Rattle.mr_arguments.specs.Expiry.{within_limit, said}
 use Rattle.mr_cmd_string.specs.Parts.{seconds, milliseconds, set_expiry, lifetime_if_any}
-use Rattle.mr_expiry.specs.Amounts.{is_amount, of_seconds, seconds_of, milliseconds_of}
+use Rattle.mr_arguments.specs.Amounts.{is_amount, of_seconds, seconds_of, milliseconds_of}
 use Rattle.mr_cmd_string.specs.Arguments.{set, setex, psetex}
 use Rattle.mr_cmd_string.specs.Options.{no_set_options, set_options}
 use Rattle.mr_cmd_string.specs.Carried.{IsTime, IsTimed}
 use Rattle.mr_arguments.proofs.PartLemmas.{with_ok, if_with, not_below_1_is}
-use Rattle.mr_expiry.proofs.ExpiryLemmas.{limit_passed, within_read}
+use Rattle.mr_arguments.proofs.ExpiryLemmas.{limit_passed, within_read}
 use Rattle.mr_arguments.specs.declared.fault.AskFault.{AskFault}
 use Rattle.mr_arguments.specs.declared.fault.AskFault.TheVariants.{ExpireTime}
 use Rattle.mr_arguments.specs.declared.fault.ExpiringCommand.TheVariants.{Set, SetEx, PSetEx}
-use Rattle.mr_expiry.specs.declared.expiry.Expiry.{Expiry}
-use Rattle.mr_expiry.specs.declared.expiry.Expiry.TheVariants.{Seconds, Milliseconds}
-use Rattle.mr_expiry.specs.declared.expiry.ExpiryUnit.{ExpiryUnit}
-use Rattle.mr_expiry.specs.declared.expiry.ExpiryUnit.TheVariants as unit
+use Rattle.mr_arguments.specs.declared.expiry.Expiry.{Expiry}
+use Rattle.mr_arguments.specs.declared.expiry.Expiry.TheVariants.{Seconds, Milliseconds}
+use Rattle.mr_arguments.specs.declared.expiry.ExpiryUnit.{ExpiryUnit}
+use Rattle.mr_arguments.specs.declared.expiry.ExpiryUnit.TheVariants as unit
 use Rattle.mr_cmd_string.specs.declared.text_ask.Lifetime.{Lifetime}
 use Rattle.mr_cmd_string.specs.declared.text_ask.Lifetime.TheVariants.{Endless, Kept, Until}
 use Rattle.mr_cmd_string.specs.declared.text_ask.SetCondition.{SetCondition}

@@ -1,14 +1,14 @@
 -- Which commands on strings words can ask for.
 use Rattle.std.specs.Prelude.{◌≢◌, pos, neg_ℤ, [], int_le, IsTrue}
 use Rattle.mr_arguments.specs.Askable.{IsI64}
-use Rattle.mr_expiry.specs.Expiry.{number_said}
-use Rattle.mr_expiry.specs.declared.expiry.Expiry.{Expiry}
-use Rattle.mr_expiry.specs.declared.expiry.Expiry.TheVariants.{Seconds, Milliseconds}
+use Rattle.mr_arguments.specs.Expiry.{number_said}
+use Rattle.mr_arguments.specs.declared.expiry.Expiry.{Expiry}
+use Rattle.mr_arguments.specs.declared.expiry.Expiry.TheVariants.{Seconds, Milliseconds}
 use Rattle.mr_cmd_string.specs.declared.text_ask.Amount.TheVariants as amount
 use Rattle.mr_cmd_string.specs.declared.text_ask.Lifetime.TheVariants.{Until}
 use Rattle.mr_cmd_string.specs.declared.text_ask.TextAsk.{TextAsk}
 use Rattle.mr_cmd_string.specs.declared.text_ask.TextAsk.TheVariants as text
-use Rattle.mr_expiry.specs.Askable.{IsAmount}
+use Rattle.mr_arguments.specs.AskableAmounts.{IsAmount}
 
 -- .. from 1 on
 abbrev pub IsLifetime : Expiry → Type 0

@@ -1,9 +1,9 @@
 -- The words that a command on strings carries.
 use Rattle.std.specs.Prelude.{ℕ, pos, List, [], ◌∷◌, int_le, IsTrue}
 use Rattle.mr_arguments.specs.Pairing.{unpaired}
-use Rattle.mr_expiry.specs.Expiry.{milliseconds}
-use Rattle.mr_expiry.specs.declared.expiry.Expiry.{Expiry}
-use Rattle.mr_expiry.specs.declared.expiry.Expiry.TheVariants.{Seconds, Milliseconds}
+use Rattle.mr_arguments.specs.Expiry.{milliseconds}
+use Rattle.mr_arguments.specs.declared.expiry.Expiry.{Expiry}
+use Rattle.mr_arguments.specs.declared.expiry.Expiry.TheVariants.{Seconds, Milliseconds}
 use Rattle.mr_cmd_string.specs.declared.text_ask.Lifetime.TheVariants.{Until}
 use Rattle.mr_cmd_string.specs.declared.text_ask.TextAsk.{TextAsk}
 use Rattle.mr_cmd_string.specs.declared.text_ask.TextAsk.TheVariants as text

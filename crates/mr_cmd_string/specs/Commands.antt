@@ -5,10 +5,10 @@ use Rattle.mr_cmd_shared.specs.Commands.{Command, on_key, on_keys}
 use Rattle.mr_cmd_string.specs.declared.text_ask.TextAsk.{TextAsk}
 use Rattle.mr_cmd_string.specs.declared.text_ask.TextAsk.TheVariants as ask
 use Rattle.mr_cmd_string.specs.Parts.{amount_number}
-use Rattle.mr_expiry.specs.Amounts.{is_amount}
-use Rattle.mr_expiry.specs.Expiry.{milliseconds}
-use Rattle.mr_expiry.specs.declared.expiry.Expiry.{Expiry}
-use Rattle.mr_expiry.specs.declared.expiry.Expiry.TheVariants.{Seconds, Milliseconds}
+use Rattle.mr_arguments.specs.Amounts.{is_amount}
+use Rattle.mr_arguments.specs.Expiry.{milliseconds}
+use Rattle.mr_arguments.specs.declared.expiry.Expiry.{Expiry}
+use Rattle.mr_arguments.specs.declared.expiry.Expiry.TheVariants.{Seconds, Milliseconds}
 use Rattle.mr_cmd_string.specs.declared.text_ask.Lifetime.TheVariants.{Until}
 use Rattle.mr_cmd_string.specs.Texts.{get_answer, strlen_answer, getrange_answer, texts}
 use Rattle.mr_cmd_string.specs.Setting.{said_at, set_answer, set_for_answer, setnx_answer, getset_answer, getdel_answer}

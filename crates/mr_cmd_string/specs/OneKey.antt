@@ -1,7 +1,7 @@
 -- The commands on strings that are on one key, by what is there.
 use Rattle.std.specs.Prelude.{ℤ, Bool, true, false, Option}
 use Rattle.mr_keyspace.specs.declared.value.Entry.{Entry}
-use Rattle.mr_expiry.specs.declared.expiry.Expiry.TheVariants.{Seconds, Milliseconds}
+use Rattle.mr_arguments.specs.declared.expiry.Expiry.TheVariants.{Seconds, Milliseconds}
 use Rattle.mr_cmd_shared.specs.Answered.{Answered, kept, done}
 use Rattle.mr_cmd_string.specs.declared.text_ask.TextAsk.{TextAsk}
 use Rattle.mr_cmd_string.specs.declared.text_ask.TextAsk.TheVariants as ask

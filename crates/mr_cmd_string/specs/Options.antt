@@ -6,8 +6,8 @@ use Rattle.mr_arguments.specs.Names.{lowered}
 use Rattle.mr_arguments.specs.Parts.{with}
 use Rattle.mr_arguments.specs.declared.fault.AskFault.{AskFault}
 use Rattle.mr_arguments.specs.declared.fault.AskFault.TheVariants.{Syntax}
-use Rattle.mr_expiry.specs.declared.expiry.ExpiryUnit.{ExpiryUnit}
-use Rattle.mr_expiry.specs.declared.expiry.ExpiryUnit.TheVariants as unit
+use Rattle.mr_arguments.specs.declared.expiry.ExpiryUnit.{ExpiryUnit}
+use Rattle.mr_arguments.specs.declared.expiry.ExpiryUnit.TheVariants as unit
 use Rattle.mr_cmd_string.specs.declared.text_ask.SetCondition.{SetCondition}
 use Rattle.mr_cmd_string.specs.declared.text_ask.SetCondition.TheVariants.{Absent, Present}
 use Rattle.mr_cmd_string.specs.declared.text_ask.SetReply.{SetReply}

@@ -7,16 +7,16 @@ use Rattle.mr_arguments.specs.declared.fault.AskFault.{AskFault}
 use Rattle.mr_arguments.specs.declared.fault.AskFault.TheVariants.{ExpireTime, Other}
 use Rattle.mr_arguments.specs.declared.fault.BadValue.TheVariants as bad
 use Rattle.mr_arguments.specs.declared.fault.ExpiringCommand.TheVariants.{Set, SetEx, PSetEx}
-use Rattle.mr_expiry.specs.Amounts.{seconds_of, milliseconds_of}
-use Rattle.mr_expiry.specs.declared.expiry.Expiry.{Expiry}
-use Rattle.mr_expiry.specs.declared.expiry.ExpiryUnit.{ExpiryUnit}
+use Rattle.mr_arguments.specs.Amounts.{seconds_of, milliseconds_of}
+use Rattle.mr_arguments.specs.declared.expiry.Expiry.{Expiry}
+use Rattle.mr_arguments.specs.declared.expiry.ExpiryUnit.{ExpiryUnit}
 use Rattle.mr_cmd_string.specs.declared.options.LifetimeOption.{LifetimeOption}
 use Rattle.mr_cmd_string.specs.declared.options.LifetimeOption.TheVariants as option
 use Rattle.mr_cmd_string.specs.declared.text_ask.Lifetime.{Lifetime}
 use Rattle.mr_cmd_string.specs.declared.text_ask.Lifetime.TheVariants.{Endless, Kept, Until}
 use Rattle.mr_cmd_string.specs.declared.text_ask.Amount.{Amount}
 use Rattle.mr_cmd_string.specs.declared.text_ask.Amount.TheVariants as amount
-use Rattle.mr_expiry.specs.Expiry.{within_limit}
+use Rattle.mr_arguments.specs.Expiry.{within_limit}
 
 -- what is added to a number
 abbrev pub amount_number : Amount → ℤ

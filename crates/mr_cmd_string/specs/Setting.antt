@@ -12,7 +12,7 @@ use Rattle.mr_keyspace.specs.declared.value.Entry.{Entry}
 use Rattle.mr_cmd_shared.specs.Answered.{Answered, kept, wrong_kind, done}
 use Rattle.mr_effect.specs.declared.effect.Effect.{Effect}
 use Rattle.mr_effect.specs.declared.effect.Effect.TheVariants as effect
-use Rattle.mr_expiry.specs.Expiry.{deadline_at}
+use Rattle.mr_arguments.specs.Expiry.{deadline_at}
 use Rattle.mr_cmd_string.specs.declared.text_ask.Lifetime.{Lifetime}
 use Rattle.mr_cmd_string.specs.declared.text_ask.Lifetime.TheVariants.{Endless, Kept, Until}
 use Rattle.mr_cmd_string.specs.declared.text_ask.SetCondition.{SetCondition}

@@ -2,7 +2,7 @@
 use Rattle.std.specs.Prelude.{ℕ, pos, neg_ℤ, List, [], ◌∷◌, ◌++◌, map, Option, Some, None}
 use Rattle.mr_arguments.specs.Spelling.{Part, Word, Number, Keyword, AreParts, AreWithOptions, NameAndArguments}
 use Rattle.mr_cmd_string.specs.Carried.{text_words}
-use Rattle.mr_expiry.specs.Expiry.{unit_said, number_said}
+use Rattle.mr_arguments.specs.Expiry.{unit_said, number_said}
 use Rattle.mr_cmd_string.specs.Options.{set_text, unit_text}
 use Rattle.mr_cmd_string.specs.declared.options.SetOption.TheVariants as option
 use Rattle.mr_cmd_string.specs.declared.text_ask.SetCondition.{SetCondition}

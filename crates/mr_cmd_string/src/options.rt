@@ -5,8 +5,7 @@ ghost use Rattle.mr_arguments.specs.Names.{lowered};
 ghost use Rattle.mr_cmd_string.specs.Options.{set_option, is_set_option, unit_of, is_unit, no_set_options, set_also, until, set_options, number_then};
 
 use crate::text_ask::{SetCondition, SetReply};
-use mr_arguments::{Argument, Arguments, AskFault};
-use mr_expiry::ExpiryUnit;
+use mr_arguments::{Argument, Arguments, AskFault, ExpiryUnit};
 use std::borrow::CowSlice;
 
 /// An option of `SET` that is one word.

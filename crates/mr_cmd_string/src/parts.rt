@@ -2,13 +2,15 @@
 ghost use Rattle.std.specs.Prelude.{◌≡◌};
 ghost use Rattle.mr_arguments.specs.Parts.{not_below_1};
 ghost use Rattle.mr_cmd_string.specs.Parts.{opposite, lifetime_if_any, milliseconds, seconds, set_expiry};
-ghost use Rattle.mr_expiry.specs.Expiry.{within_limit};
+ghost use Rattle.mr_arguments.specs.Expiry.{within_limit};
 
 use crate::options::LifetimeOption;
 use crate::text_ask::Lifetime;
-use mr_arguments::{AskFault, BadValue, ExpiringCommand, not_below_1};
+use mr_arguments::{
+    AskFault, BadValue, ExpiringCommand, Expiry, ExpiryUnit, Milliseconds, Seconds, not_below_1,
+    within_limit,
+};
 use mr_bytes::read_i64;
-use mr_expiry::{Expiry, ExpiryUnit, Milliseconds, Seconds, within_limit};
 
 /// The opposite of a number that is to be taken away. Only the least number has none.
 pub(crate) fn opposite(number: i64) -> Result<i64, AskFault>

@@ -16,10 +16,9 @@ use crate::setting::{SetRules, getdel, getset, set, setnx};
 use crate::setting_all::{mset, msetnx};
 use crate::text_ask::{Lifetime, SetReply, TextAsk};
 use crate::texts::{get, getrange, mget, strlen};
-use mr_arguments::Argument;
+use mr_arguments::{Argument, Expiry};
 use mr_cmd_shared::{Effects, look};
 use mr_data::{Dataset, Entry, Given, Plan};
-use mr_expiry::Expiry;
 use mr_resp::Reply;
 use std::alloc::{AllocError, Global};
 

@@ -2,8 +2,7 @@
 ghost use Rattle.std.specs.Prelude.{◌≡◌};
 ghost use Rattle.mr_cmd_string.specs.Parts.{amount_number};
 
-use mr_arguments::{Argument, WordPairs, Words};
-use mr_expiry::{Expiry, Milliseconds, Seconds};
+use mr_arguments::{Argument, Expiry, Milliseconds, Seconds, WordPairs, Words};
 
 /// A command on strings, with its arguments.
 #[derive(Drop)]

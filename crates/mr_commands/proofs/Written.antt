@@ -2,7 +2,7 @@
 use Rattle.std.proofs.Common.{◌≡◌, ℕ, List, false, refl, inl, inr, ap, ◌∙◌}
 use Rattle.mr_bytes.specs.declared.ends.End.TheVariants.{Left, Right}
 use Rattle.mr_arguments.specs.declared.name.Name.{Name}
-use Rattle.mr_expiry.specs.declared.expiry.Expiry.TheVariants as expiry
+use Rattle.mr_arguments.specs.declared.expiry.Expiry.TheVariants as expiry
 use Rattle.mr_zset_options.specs.declared.choices.Order.TheVariants.{Ascending, Descending}
 use Rattle.mr_cmd_string.specs.declared.text_ask.Amount.TheVariants as amount
 use Rattle.mr_cmd_string.specs.declared.text_ask.TextAsk.{TextAsk}

@@ -22,9 +22,9 @@ use Rattle.mr_effect.specs.declared.effect.Effect.{Effect}
 use Rattle.mr_keyspace.specs.Changes.{NeedsNoMemory}
 use Rattle.mr_keyspace.specs.Dataset.{Dataset}
 use Rattle.mr_data.specs.Meaning.{apply, apply_all}
-use Rattle.mr_replay.specs.Effects.{IsGoodEffect}
-use Rattle.mr_replay.specs.Steps.{RefusesWords}
-use Rattle.mr_replay.proofs.Commands.{words_are}
+use Rattle.mr_groups.specs.Effects.{IsGoodEffect}
+use Rattle.mr_groups.specs.Steps.{RefusesWords}
+use Rattle.mr_groups.proofs.Commands.{words_are}
 use Rattle.mr_groups.specs.Groups.{IsGoodGroup, multi, group_text}
 use Rattle.mr_groups.specs.Parts.{multi_words}
 use Rattle.mr_groups.specs.Folding.{IsRefused, IsTorn}

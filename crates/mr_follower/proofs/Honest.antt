@@ -3,7 +3,7 @@ use Rattle.std.proofs.Common.{◌≡◌, ℕ, inl, inr, List, [], ◌∷◌, ◌
 use Rattle.std.proofs.lemmas.List.{append_cancel_left, append_cancel_right}
 use Rattle.mr_inline.specs.Language.{Continues}
 use Rattle.mr_keyspace.specs.Dataset.{Dataset}
-use Rattle.mr_replay.specs.Effects.{Makes}
+use Rattle.mr_groups.specs.Effects.{Makes}
 use Rattle.mr_peer_lines.specs.Lines.{Line, refusal, size, Says, IsLineText, IsPeerLine}
 use Rattle.mr_peer_lines.proofs.Apart.{apart, one_line}
 use Rattle.mr_follower.specs.Handshake.{IsGreeting}

@@ -17,10 +17,10 @@ use Rattle.mr_effect.proofs.Texts.{one_text}
 use Rattle.mr_keyspace.specs.Dataset.{Dataset}
 use Rattle.mr_keyspace.specs.Changes.{change}
 use Rattle.mr_data.specs.Meaning.{apply, apply_all}
-use Rattle.mr_replay.specs.Effects.{IsGoodEffect, Leads, Makes, IsStuck, IsStuckForGood}
-use Rattle.mr_replay.specs.Steps.{SpendsFirst, IsHalt, Replays}
-use Rattle.mr_replay.specs.declared.replaying.Halt.{Halt}
-use Rattle.mr_replay.specs.declared.replaying.Halt.TheVariants as halt
+use Rattle.mr_groups.specs.Effects.{IsGoodEffect, Leads, Makes, IsStuck, IsStuckForGood}
+use Rattle.mr_groups.specs.Steps.{SpendsFirst, IsHalt, Replays}
+use Rattle.mr_groups.specs.declared.replaying.Halt.{Halt}
+use Rattle.mr_groups.specs.declared.replaying.Halt.TheVariants as halt
 use Rattle.mr_follower.specs.Loading.{HasCommandWithin, HasEffectWithin, IsDeadEnd, pause_of, Pauses, GoesOn}
 use Rattle.mr_follower.specs.Stream.{HasCommand}
 use Rattle.mr_follower.specs.declared.taking.Taking.{Taking}

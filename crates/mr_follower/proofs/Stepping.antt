@@ -17,8 +17,8 @@ use Rattle.mr_follower.specs.Handshake.{IsGreeting, next_of, line_after}
 use Rattle.mr_follower.specs.Lines.{Begins, IsFront, HasStatus, IsShortOf, HearsAnswer, HearsLength, HearsStatus}
 use Rattle.std.specs.FinMap.{empty}
 use Rattle.std.proofs.lemmas.List.{append_cancel_left}
-use Rattle.mr_replay.specs.Effects.{Makes}
-use Rattle.mr_replay.proofs.Leading.{leads_further, leads_nowhere}
+use Rattle.mr_groups.specs.Effects.{Makes}
+use Rattle.mr_groups.proofs.Leading.{leads_further, leads_nowhere}
 use Rattle.mr_data.specs.Rebuilding.{rebuilding}
 use Rattle.mr_effect.specs.Spelling.{texts}
 use Rattle.mr_follower.specs.Loading.{IsDeadEnd, HasEffectWithin, GoesOn, TakesOut, HandsOver}

@@ -9,7 +9,7 @@ use Rattle.mr_groups.specs.Folding.{apply_groups}
 use Rattle.mr_follower.specs.State.{FollowState, heard}
 use Rattle.mr_follower.specs.Rows.{FollowRow}
 use Rattle.mr_follower.specs.declared.phase.Phase.TheVariants as phase
-use Rattle.mr_replay.specs.Effects.{Makes}
+use Rattle.mr_groups.specs.Effects.{Makes}
 use Rattle.mr_follower.specs.declared.heard.Heard.{Heard}
 use Rattle.mr_follower.specs.declared.heard.Heard.TheVariants as heard_of
 use Rattle.mr_follower.specs.declared.heard.FollowFault.{FollowFault}

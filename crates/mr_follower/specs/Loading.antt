@@ -11,9 +11,9 @@ use Rattle.mr_data.specs.Meaning.{apply}
 use Rattle.mr_data.specs.Rebuilding.{rebuilding}
 use Rattle.mr_inline.specs.Language.{Continues}
 use Rattle.mr_peer_lines.specs.Lines.{IsLineText}
-use Rattle.mr_replay.specs.Effects.{IsGoodEffect, Leads, Makes}
-use Rattle.mr_replay.specs.declared.replaying.Halt.{Halt}
-use Rattle.mr_replay.specs.declared.replaying.Halt.TheVariants as halt
+use Rattle.mr_groups.specs.Effects.{IsGoodEffect, Leads, Makes}
+use Rattle.mr_groups.specs.declared.replaying.Halt.{Halt}
+use Rattle.mr_groups.specs.declared.replaying.Halt.TheVariants as halt
 use Rattle.mr_follower.specs.Lines.{HearsLength}
 use Rattle.mr_follower.specs.State.{FollowState, IsTaking, IsTaken, Agrees}
 use Rattle.mr_follower.specs.declared.phase.Phase.TheVariants.{Stream}

@@ -14,7 +14,7 @@ use Rattle.mr_peer_lines.specs.Lines.{Line, status, refusal, size, IsLineText}
 use Rattle.mr_peer_lines.specs.Replies.{IsReplyText}
 use Rattle.mr_peer_lines.specs.declared.psync.PsyncReply.{PsyncReply}
 use Rattle.mr_peer_lines.specs.declared.psync.PsyncReply.TheVariants as reply
-use Rattle.mr_replay.specs.Effects.{Makes}
+use Rattle.mr_groups.specs.Effects.{Makes}
 use Rattle.mr_effect.specs.declared.effect.Effect.{Effect}
 use Rattle.mr_data.specs.Meaning.{apply_all}
 use Rattle.mr_groups.specs.Groups.{IsGoodGroup, group_text}

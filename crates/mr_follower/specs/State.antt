@@ -4,7 +4,7 @@ use Rattle.std.specs.Coded.{Coded, code_by, coded×, coded_ℕ, coded_list, code
 use Rattle.mr_repl.specs.Backlog.{offset_limit}
 use Rattle.mr_peer_lines.specs.Lines.{most, size, IsPeerLine}
 use Rattle.mr_repl.specs.ReplId.{IsId}
-use Rattle.mr_replay.specs.Effects.{Makes}
+use Rattle.mr_groups.specs.Effects.{Makes}
 use Rattle.mr_follower.specs.contracts.phase.Phase as waited
 use Rattle.mr_follower.specs.contracts.taking.Taking as begun
 use Rattle.mr_follower.specs.declared.taking.Taking.{Taking}

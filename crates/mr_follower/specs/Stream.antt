@@ -8,7 +8,7 @@ use Rattle.mr_effect.specs.declared.effect.Effect.{Effect}
 use Rattle.mr_keyspace.specs.Changes.{NeedsNoMemory}
 use Rattle.mr_keyspace.specs.Dataset.{Dataset}
 use Rattle.mr_data.specs.Meaning.{apply_all}
-use Rattle.mr_replay.specs.Steps.{DoesWords, RefusesWords, SpendsWords}
+use Rattle.mr_groups.specs.Steps.{DoesWords, RefusesWords, SpendsWords}
 use Rattle.mr_groups.specs.Groups.{IsGoodGroup, group_text}
 use Rattle.mr_groups.specs.Reading.{IsFirstGroup, IsOpen}
 use Rattle.mr_groups.specs.Folding.{IsRefused, IsTorn}

@@ -2,15 +2,14 @@
 ghost use Rattle.std.specs.Prelude.{◌≡◌, ◌≤◌, ◌++◌, [], length, drop, take, IfOk, OnOk, OnErr};
 ghost use Rattle.mr_resp.specs.Command.{BeginsWithCommand};
 ghost use Rattle.mr_resp.specs.Usual.{commands};
-ghost use Rattle.mr_replay.specs.Steps.{Replays};
+ghost use Rattle.mr_groups.specs.Steps.{Replays};
 ghost use Rattle.mr_groups.specs.Reading.{ReadsGroup};
 ghost use Rattle.mr_follower.specs.Stream.{AppliesSingle};
 
 use crate::single::{Single, apply_single};
 use mr_buffer::Buffer;
 use mr_data::Dataset;
-use mr_groups::{Next, Reader};
-use mr_replay::{Replayed, replay_front};
+use mr_groups::{Next, Reader, Replayed, replay_front};
 use mr_resp::CommandProgress;
 use std::alloc::{AllocError, Global};
 use std::marker::Model;

@@ -6,8 +6,7 @@ ghost use Rattle.mr_follower.specs.Stream.{AppliesSingle, AppliesText};
 
 use crate::FollowFault;
 use mr_data::Dataset;
-use mr_groups::begins_frame;
-use mr_replay::{Tried, try_words};
+use mr_groups::{Tried, begins_frame, try_words};
 use mr_resp::{CommandProgress, Scan, next_command_from};
 use std::alloc::Global;
 use std::borrow::CowSlice;

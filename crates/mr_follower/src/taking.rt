@@ -5,7 +5,7 @@ ghost use Rattle.mr_follower.specs.Loading.{GoesOn, pause_of};
 
 use crate::inbox::{Inbox, at_most};
 use mr_data::Dataset;
-use mr_replay::Halt;
+use mr_groups::Halt;
 use std::alloc::Global;
 use std::hash::RandomState;
 

@@ -19,8 +19,8 @@ use Rattle.mr_effect.specs.declared.name.EffectName.{EffectName}
 use Rattle.mr_effect.specs.declared.name.EffectName.TheVariants as name
 use Rattle.mr_effect.specs.declared.effect.Effect.{Effect}
 use Rattle.mr_effect.proofs.Texts.{command_text}
-use Rattle.mr_replay.specs.Effects.{IsGoodEffect}
-use Rattle.mr_replay.proofs.Leading.{one_effect}
+use Rattle.mr_groups.specs.Effects.{IsGoodEffect}
+use Rattle.mr_groups.proofs.Leading.{one_effect}
 use Rattle.mr_groups.specs.Groups.{IsGroup, IsGoodGroup, multi, exec, group_text}
 use Rattle.mr_groups.specs.Parts.{multi_words, exec_words}
 

@@ -9,10 +9,10 @@ use Rattle.mr_effect.specs.declared.effect.Effect.{Effect}
 use Rattle.mr_keyspace.specs.Dataset.{Dataset}
 use Rattle.mr_data.specs.Meaning.{apply_all}
 use Rattle.mr_data.proofs.Folding.{apply_all-append}
-use Rattle.mr_replay.specs.Steps.{Replays, IsHalt as IsRunHalt}
-use Rattle.mr_replay.specs.declared.replaying.Halt.{Halt}
-use Rattle.mr_replay.specs.declared.replaying.Halt.TheVariants as halt
-use Rattle.mr_replay.proofs.Pieces.{rest_from, rest_is}
+use Rattle.mr_groups.specs.Steps.{Replays, IsHalt as IsRunHalt}
+use Rattle.mr_groups.specs.declared.replaying.Halt.{Halt}
+use Rattle.mr_groups.specs.declared.replaying.Halt.TheVariants as halt
+use Rattle.mr_groups.proofs.Pieces.{rest_from, rest_is}
 use Rattle.mr_groups.specs.Groups.{IsGoodGroup, group_text, group_texts}
 use Rattle.mr_groups.specs.Reading.{IsFirstGroup, BeginsWithGroup, IsOpen, IsBad}
 use Rattle.mr_groups.specs.Notes.{note_text, BeginsWithNote, IsFirstNote, IsOpenNote, HasNoNote}

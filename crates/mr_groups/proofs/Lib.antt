@@ -15,3 +15,7 @@ pub mod Noted
 pub mod Lone
 pub mod Resuming
 pub mod Lengths
+pub mod Commands
+pub mod KnownTexts
+pub mod Leading
+pub mod Pieces

@@ -8,7 +8,7 @@ use Rattle.mr_resp.specs.Usual.{commands}
 use Rattle.mr_resp.proofs.Commands.{commands_apart}
 use Rattle.mr_effect.specs.Spelling.{text, texts}
 use Rattle.mr_effect.specs.declared.effect.Effect.{Effect}
-use Rattle.mr_replay.specs.Effects.{IsGoodEffect}
+use Rattle.mr_groups.specs.Effects.{IsGoodEffect}
 use Rattle.mr_groups.specs.Groups.{IsGoodGroup, multi, exec, group_text, parts}
 use Rattle.mr_groups.specs.Parts.{multi_words}
 use Rattle.mr_groups.specs.Reading.{IsOpen}

@@ -8,7 +8,7 @@ use Rattle.std.proofs.lemmas.List.{length-append, take-append-drop, take_at}
 use Rattle.mr_effect.specs.Spelling.{texts}
 use Rattle.mr_effect.specs.declared.effect.Effect.{Effect}
 use Rattle.mr_keyspace.specs.Dataset.{Dataset}
-use Rattle.mr_replay.specs.Effects.{IsGoodEffect}
+use Rattle.mr_groups.specs.Effects.{IsGoodEffect}
 use Rattle.mr_groups.specs.Groups.{can_join, multi}
 use Rattle.mr_groups.specs.Reading.{IsBad}
 use Rattle.mr_groups.specs.Notes.{mark, IsNoteLine, note_text}

@@ -11,8 +11,8 @@ use Rattle.mr_resp.proofs.Commands.{commands_apart, command_wants_no_more}
 use Rattle.mr_effect.specs.Spelling.{words, text, texts}
 use Rattle.mr_effect.specs.declared.effect.Effect.{Effect}
 use Rattle.mr_effect.specs.declared.effect.Effect.TheVariants as effect
-use Rattle.mr_replay.specs.Effects.{IsGoodEffect}
-use Rattle.mr_replay.proofs.Leading.{one_effect}
+use Rattle.mr_groups.specs.Effects.{IsGoodEffect}
+use Rattle.mr_groups.proofs.Leading.{one_effect}
 use Rattle.mr_groups.specs.Groups.{can_join, is_group, IsGoodGroup, multi, exec, group_text, parts}
 use Rattle.mr_groups.specs.Parts.{HasOther, multi_words, exec_words}
 use Rattle.mr_groups.specs.Reading.{BeginsWithGroup, IsCut, BeginGroup, IsOpen, IsBad}

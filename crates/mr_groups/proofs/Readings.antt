@@ -17,9 +17,9 @@ use Rattle.mr_resp.proofs.Commands.{commands_apart, map_ok}
 use Rattle.mr_resp.specs.declared.fault.Fault.{Fault}
 use Rattle.mr_effect.specs.Spelling.{words, text, texts}
 use Rattle.mr_effect.specs.declared.effect.Effect.{Effect}
-use Rattle.mr_replay.specs.Effects.{IsGoodEffect}
-use Rattle.mr_replay.proofs.Commands.{words_are}
-use Rattle.mr_replay.proofs.Pieces.{rest_from, rest_is}
+use Rattle.mr_groups.specs.Effects.{IsGoodEffect}
+use Rattle.mr_groups.proofs.Commands.{words_are}
+use Rattle.mr_groups.proofs.Pieces.{rest_from, rest_is}
 use Rattle.mr_groups.specs.Groups.{can_join, IsGroup, IsGoodGroup, multi, exec, group_text}
 use Rattle.mr_groups.specs.Parts.{StartsWith, TakesEffect, HasOther, TakesWords, AreOther, ReadsEffect, ReadsWords, ReadsPart, is_only, multi_words, exec_words}
 use Rattle.mr_groups.specs.Reading.{IsFirstGroup, IsOpen, IsBad}

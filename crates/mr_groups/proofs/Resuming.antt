@@ -6,8 +6,8 @@ use Rattle.mr_resp.specs.Resumed.{AgreesCommand, MayAgree}
 use Rattle.mr_resp.specs.declared.progress.CommandProgress.{CommandProgress}
 use Rattle.mr_resp.proofs.Resuming.{command_more, fresh_command}
 use Rattle.mr_resp.specs.Usual.{commands}
-use Rattle.mr_replay.proofs.Knowing.{known_from}
-use Rattle.mr_replay.proofs.Pieces.{rest_from}
+use Rattle.mr_groups.proofs.KnownTexts.{known_from}
+use Rattle.mr_groups.proofs.Pieces.{rest_from}
 use Rattle.mr_effect.specs.Spelling.{texts}
 use Rattle.mr_effect.specs.declared.effect.Effect.{Effect}
 use Rattle.mr_groups.specs.Groups.{multi}

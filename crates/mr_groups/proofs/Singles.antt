@@ -8,7 +8,7 @@ use Rattle.mr_effect.specs.declared.effect.Effect.{Effect}
 use Rattle.mr_keyspace.specs.Dataset.{Dataset}
 use Rattle.mr_keyspace.specs.Changes.{change}
 use Rattle.mr_data.specs.Meaning.{apply, apply_all}
-use Rattle.mr_replay.specs.Effects.{IsGoodEffect, Leads, Makes}
+use Rattle.mr_groups.specs.Effects.{IsGoodEffect, Leads, Makes}
 use Rattle.mr_groups.specs.Groups.{IsGoodGroup, singles}
 use Rattle.mr_groups.specs.Folding.{LeadsByGroups, MakesByGroups}
 use Rattle.mr_groups.proofs.Runs.{first_done, single_texts, single_applied, by_items}

@@ -5,7 +5,7 @@ use Rattle.mr_resp.specs.Spelling.{array}
 use Rattle.mr_effect.specs.Spelling.{text, texts}
 use Rattle.mr_effect.specs.declared.effect.Effect.{Effect}
 use Rattle.mr_effect.specs.declared.effect.Effect.TheVariants as effect
-use Rattle.mr_replay.specs.Effects.{IsGoodEffect}
+use Rattle.mr_groups.specs.Effects.{IsGoodEffect}
 
 -- it can stand beside others in a group: PING can't
 abbrev pub can_join : Effect → Bool

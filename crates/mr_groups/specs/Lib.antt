@@ -7,3 +7,5 @@ pub mod Items
 pub mod Folding
 pub mod Replaying
 pub mod Fronts
+pub mod Effects
+pub mod Steps

@@ -9,7 +9,7 @@ use Rattle.mr_resp.specs.Usual.{commands}
 use Rattle.mr_resp.specs.declared.progress.CommandProgress.{CommandProgress}
 use Rattle.mr_effect.specs.Spelling.{text, IsSpelled}
 use Rattle.mr_effect.specs.declared.effect.Effect.{Effect}
-use Rattle.mr_replay.specs.Effects.{IsGoodEffect}
+use Rattle.mr_groups.specs.Effects.{IsGoodEffect}
 use Rattle.mr_groups.specs.Groups.{can_join, multi, exec}
 use Rattle.mr_groups.specs.declared.part.Part.{Part}
 use Rattle.mr_groups.specs.declared.part.Part.TheVariants as part

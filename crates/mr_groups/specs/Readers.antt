@@ -4,7 +4,7 @@ use Rattle.std.specs.List.{list_all}
 use Rattle.mr_resp.specs.Resumed.{AgreesCommand, KnowsNothing}
 use Rattle.mr_effect.specs.Spelling.{texts}
 use Rattle.mr_effect.specs.declared.effect.Effect.{Effect}
-use Rattle.mr_replay.specs.Effects.{IsGoodEffect}
+use Rattle.mr_groups.specs.Effects.{IsGoodEffect}
 use Rattle.mr_groups.specs.Groups.{can_join, multi}
 use Rattle.mr_groups.specs.declared.reader.Reader.{Reader}
 use Rattle.mr_groups.specs.declared.reading.Next.{Next}

@@ -9,8 +9,8 @@ use crate::applying::{GroupFault, apply_group_owned};
 use crate::note::{Note, note_at};
 use crate::reader::Reader;
 use crate::reading::Next;
+use crate::{Halt, replay_front};
 use mr_data::{Dataset, Effect};
-use mr_replay::{Halt, replay_front};
 use std::alloc::{AllocError, Global};
 
 /// What is left behind the groups that were done.

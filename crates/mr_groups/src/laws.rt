@@ -5,7 +5,7 @@ ghost use Rattle.mr_effect.specs.Spelling.{texts};
 ghost use Rattle.mr_effect.specs.declared.effect.Effect.{Effect};
 ghost use Rattle.mr_keyspace.specs.Dataset.{Dataset};
 ghost use Rattle.mr_data.specs.Meaning.{apply_all};
-ghost use Rattle.mr_replay.specs.Effects.{IsGoodEffect};
+ghost use Rattle.mr_groups.specs.Effects.{IsGoodEffect};
 ghost use Rattle.mr_groups.specs.Groups.{IsGoodGroup, can_join, group_text, group_texts, multi, singles};
 ghost use Rattle.mr_groups.specs.Notes.{IsNoteLine, mark, note_text};
 ghost use Rattle.mr_groups.specs.Reading.{BeginsWithGroup, IsBad, IsFirstGroup, IsOpen};

@@ -12,6 +12,8 @@ mod part;
 mod reader;
 mod reading;
 mod replay;
+mod replaying;
+mod trying;
 
 pub use applying::{GroupFault, apply_group, apply_group_owned};
 pub use encoding::{FRAME, encode_group, exec_text, multi_text};
@@ -25,3 +27,5 @@ pub use part::begins_frame;
 pub use reader::Reader;
 pub use reading::{Next, next_group};
 pub use replay::GroupReplay;
+pub use replaying::{Halt, Replayed, replay_front};
+pub use trying::{Tried, try_words};

@@ -1,8 +1,8 @@
 -- What comes to an end of the client, one turn after another.
 use Rattle.std.proofs.Common.{◌≡◌, ◌∙◌, ℕ, Bool, List, [], ◌++◌, Global, Vec, Option, Some, None, refl, sym, ap, subst, append-nil, append_assoc, take, take-append-drop}
 use Rattle.std.specs.Prelude.{Result, Ok, Err, IfOk, IfSome, IfNone}
-use Rattle.mr_client.specs.State.{ClientState, Sent, Heard}
-use Rattle.mr_console.specs.declared.fault.TrioFault.{TrioFault}
+use Rattle.mr_trio_script.specs.State.{ClientState, Sent, Heard}
+use Rattle.mr_trio_script.specs.declared.fault.TrioFault.{TrioFault}
 use Rattle.mr_wire.specs.Wire.{WireState, count_of}
 use Rattle.mr_trio.specs.Asking.{IsTaken, Moves, MovesIf, MovesToReply}
 

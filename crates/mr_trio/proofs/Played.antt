@@ -1,9 +1,9 @@
 -- A script that was played, or whose nodes weren't started.
 use Rattle.std.proofs.Common.{ℕ, List, Option, refl}
 use Rattle.std.specs.Prelude.{Result, Err}
-use Rattle.mr_console.specs.Faults.{IsInner}
-use Rattle.mr_console.specs.Scripts.{PlaysScript}
-use Rattle.mr_console.specs.declared.fault.TrioFault.{TrioFault}
+use Rattle.mr_trio_script.specs.Faults.{IsInner}
+use Rattle.mr_trio_script.specs.Scripts.{PlaysScript}
+use Rattle.mr_trio_script.specs.declared.fault.TrioFault.{TrioFault}
 use Rattle.mr_trio.specs.Asking.{three_conduct}
 use Rattle.mr_trio.specs.Playing.{PlaysTrio}
 use Rattle.mr_trio.specs.declared.three.Three.{Three}

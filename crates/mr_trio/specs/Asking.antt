@@ -1,12 +1,12 @@
 -- What a line comes to at the three nodes, and what each of them is.
 use Rattle.std.specs.Prelude.{◌≡◌, ℕ, List, [], ◌∷◌, ◌++◌, Option, Some, None, take, decimal}
 use Rattle.mr_resp.specs.Spelling.{array}
-use Rattle.mr_client.specs.State.{ClientState, TakesOff, asked, begun}
-use Rattle.mr_console.specs.Conduct.{Conduct}
-use Rattle.mr_console.specs.Naming.{NamesNode, host}
-use Rattle.mr_console.specs.declared.ending.Ending.{Ending}
-use Rattle.mr_console.specs.declared.place.Place.{Place}
-use Rattle.mr_console.specs.declared.place.Place.TheVariants.{First, Second, Third}
+use Rattle.mr_trio_script.specs.State.{ClientState, TakesOff, asked, begun}
+use Rattle.mr_trio_script.specs.Conduct.{Conduct}
+use Rattle.mr_trio_script.specs.Naming.{NamesNode, host}
+use Rattle.mr_trio_script.specs.declared.ending.Ending.{Ending}
+use Rattle.mr_trio_script.specs.declared.place.Place.{Place}
+use Rattle.mr_trio_script.specs.declared.place.Place.TheVariants.{First, Second, Third}
 use Rattle.mr_node_spec.specs.State.{shown}
 use Rattle.mr_trio.specs.Levels.{AllLevel, Listening, Trio}
 use Rattle.mr_trio.specs.Three.{trio_of}

@@ -1,8 +1,8 @@
 -- Which fault a part's comes to.
-use Rattle.mr_client.specs.declared.client.ClientFault.{ClientFault}
-use Rattle.mr_client.specs.declared.client.ClientFault.TheVariants as client
-use Rattle.mr_console.specs.declared.fault.TrioFault.{TrioFault}
-use Rattle.mr_console.specs.declared.fault.TrioFault.TheVariants.{Stopped, Socket}
+use Rattle.mr_trio_script.specs.declared.client.ClientFault.{ClientFault}
+use Rattle.mr_trio_script.specs.declared.client.ClientFault.TheVariants as client
+use Rattle.mr_trio_script.specs.declared.fault.TrioFault.{TrioFault}
+use Rattle.mr_trio_script.specs.declared.fault.TrioFault.TheVariants.{Stopped, Socket}
 use Rattle.mr_loop.specs.declared.fault.LoopFault.{LoopFault}
 use Rattle.mr_loop.specs.declared.fault.LoopFault.TheVariants as loop
 

@@ -1,6 +1,6 @@
 -- Whether each replica has what its master has.
 use Rattle.std.specs.Prelude.{◌≡◌, ◌⊎◌, ℕ, Some}
-use Rattle.mr_console.specs.Naming.{host}
+use Rattle.mr_trio_script.specs.Naming.{host}
 use Rattle.mr_node.specs.Parts.{role_of}
 use Rattle.mr_node.specs.declared.role.Role.TheVariants as role
 use Rattle.mr_node_spec.specs.State.{NodeState, shown}

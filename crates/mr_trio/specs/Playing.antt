@@ -1,8 +1,8 @@
 -- A script of three nodes that are started for it.
 use Rattle.std.specs.Prelude.{◌≡◌, ℕ, List, Option, Result, Err}
-use Rattle.mr_console.specs.Faults.{IsInner}
-use Rattle.mr_console.specs.Scripts.{PlaysScript}
-use Rattle.mr_console.specs.declared.fault.TrioFault.{TrioFault}
+use Rattle.mr_trio_script.specs.Faults.{IsInner}
+use Rattle.mr_trio_script.specs.Scripts.{PlaysScript}
+use Rattle.mr_trio_script.specs.declared.fault.TrioFault.{TrioFault}
 use Rattle.mr_trio.specs.Asking.{three_conduct}
 use Rattle.mr_trio.specs.declared.three.Three.{Three}
 

@@ -1,16 +1,15 @@
 // The client of the three nodes.
 ghost use Rattle.std.specs.Prelude.{◌≡◌, IfOk, IfSome, IfNone, IfErr, OnOk, None, Some, map};
 ghost use Rattle.std.specs.Cow.{cow_slice_items};
-ghost use Rattle.mr_client.specs.Replies.{IsReply};
-ghost use Rattle.mr_client.specs.State.{begun};
-ghost use Rattle.mr_console.specs.Faults.{IsInner};
+ghost use Rattle.mr_trio_script.specs.Replies.{IsReply};
+ghost use Rattle.mr_trio_script.specs.State.{begun};
+ghost use Rattle.mr_trio_script.specs.Faults.{IsInner};
 ghost use Rattle.mr_resp.specs.Spelling.{array};
 ghost use Rattle.mr_trio.specs.Asking.{IsAsked, IsFrom, IsTaken, Moves, MovesIf, end_at};
 
 use crate::faults::of_client;
-use mr_client::Client;
-use mr_console::{HOST, Place, TrioFault};
 use mr_file::PIECE;
+use mr_trio_script::{Client, HOST, Place, TrioFault};
 use mr_wire::{SocketWire, Wire};
 use std::alloc::Global;
 use std::borrow::CowSlice;

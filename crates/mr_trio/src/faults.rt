@@ -2,9 +2,8 @@
 ghost use Rattle.std.specs.Prelude.{◌≡◌};
 ghost use Rattle.mr_trio.specs.Faults.{of_client, of_loop};
 
-use mr_client::ClientFault;
-use mr_console::TrioFault;
 use mr_loop::LoopFault;
+use mr_trio_script::{ClientFault, TrioFault};
 
 /// A node without a file whose file failed was stopped.
 pub(crate) fn of_loop(fault: LoopFault) -> TrioFault

@@ -1,13 +1,13 @@
 // Whether a replica has what its master has.
 ghost use Rattle.std.specs.Prelude.{◌≡◌, IsTrue};
-ghost use Rattle.mr_console.specs.Naming.{host};
+ghost use Rattle.mr_trio_script.specs.Naming.{host};
 ghost use Rattle.mr_node_spec.specs.State.{shown};
 ghost use Rattle.mr_trio.specs.Levels.{IsAt};
 
 use crate::member::Member;
-use mr_console::HOST;
 use mr_node_output::Address;
 use mr_repl::ReplId;
+use mr_trio_script::HOST;
 
 /// Whether a replica was told to follow this node, and shows what it shows.
 pub(crate) fn is_at(replica: &Member, master: &Member) -> bool

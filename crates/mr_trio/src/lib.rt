@@ -10,5 +10,5 @@ mod numbered_source;
 mod starting;
 mod three;
 
-pub use mr_console::TrioFault;
+pub use mr_trio_script::TrioFault;
 pub use starting::trio;

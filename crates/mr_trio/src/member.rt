@@ -1,6 +1,6 @@
 // A node of the three.
 ghost use Rattle.std.specs.Prelude.{◌≡◌, [], IfErr, IsErrOf, option_copied, false, true};
-ghost use Rattle.mr_console.specs.Faults.{IsInner};
+ghost use Rattle.mr_trio_script.specs.Faults.{IsInner};
 ghost use Rattle.mr_file.specs.LogFile.{Rose};
 ghost use Rattle.mr_node.specs.Parts.{role_of};
 ghost use Rattle.mr_node_spec.specs.State.{shown};
@@ -9,13 +9,13 @@ use crate::eager_wire::EagerWire;
 use crate::faults::of_loop;
 use crate::numbered_source::NumberedSource;
 use mr_aof::{Log, NoFile};
-use mr_console::TrioFault;
 use mr_data::Dataset;
 use mr_loop::{Links, turn};
 use mr_node::{Config, Node, Role};
 use mr_node_output::Address;
 use mr_repl::{ReplId, USUAL_BACKLOG};
 use mr_source::Source;
+use mr_trio_script::TrioFault;
 use mr_wire::SocketWire;
 use std::alloc::Global;
 use std::hash::RandomState;

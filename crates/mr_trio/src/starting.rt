@@ -2,7 +2,7 @@
 ghost use Rattle.mr_trio.specs.Playing.{PlaysTrio};
 
 use crate::three::Three;
-use mr_console::{TrioFault, play};
+use mr_trio_script::{TrioFault, play};
 use std::alloc::Global;
 use std::hash::RandomState;
 use std::io::{BufRead, Write};

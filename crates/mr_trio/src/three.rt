@@ -1,8 +1,8 @@
 // The three nodes, and their client.
 ghost use Rattle.std.specs.Prelude.{◌≡◌, ◌⊎◌, IfOk, IfErr, IfSome, IfNone, IsErrOf, IsTrue, OnOk, map};
 ghost use Rattle.std.specs.Cow.{cow_slice_items};
-ghost use Rattle.mr_client.specs.Replies.{IsReply};
-ghost use Rattle.mr_console.specs.Faults.{IsInner, IsOfPlay};
+ghost use Rattle.mr_trio_script.specs.Replies.{IsReply};
+ghost use Rattle.mr_trio_script.specs.Faults.{IsInner, IsOfPlay};
 ghost use Rattle.mr_trio.specs.Asking.{Answers, Delays, EndsAs, GoAs, IsAskedOf, MovesIf, MovesToReply, end_at, node_at, three_conduct};
 ghost use Rattle.mr_trio.specs.Levels.{AllLevel, IsAt, IsLevel};
 ghost use Rattle.mr_trio.specs.Three.{trio_of};
@@ -11,8 +11,8 @@ use crate::desk::Desk;
 use crate::level::is_at;
 use crate::member::{Member, listening};
 use crate::numbered_source::NumberedSource;
-use mr_console::{Ending, Nodes, Place, TrioFault, node_named, with_address};
 use mr_node::Role;
+use mr_trio_script::{Ending, Nodes, Place, TrioFault, node_named, with_address};
 use std::alloc::Global;
 use std::borrow::CowSlice;
 use std::hash::RandomState;

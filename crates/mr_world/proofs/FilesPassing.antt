@@ -3,7 +3,7 @@ use Rattle.std.proofs.Common.{zero, suc, ◌≡◌, ◌⊎◌, inl, inr, ℕ, Li
 use Rattle.std.specs.Prelude.{slice_get}
 use Rattle.law_refinement.specs.State.{Slot, WorldState}
 use Rattle.law_refinement.specs.Worlds.{IsWorld, no_world}
-use Rattle.mr_headline.specs.Runs.{last_of}
+use Rattle.law_refinement.specs.Runs.{last_of}
 use Rattle.law_refinement.proofs.Beginning.{worlds_begin}
 use Rattle.law_refinement.proofs.Places.{is_within}
 use Rattle.law_files.specs.Worlds.{FileBegins, FileGoesOn, FilesGoOn, GoOn, HasGrown}

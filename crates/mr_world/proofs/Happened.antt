@@ -19,7 +19,7 @@ use Rattle.law_refinement.proofs.Beginning.{starts, restarts}
 use Rattle.law_refinement.proofs.Linking.{opens, open_stops, server_feeds, master_feeds, server_breaks, master_breaks}
 use Rattle.law_refinement.proofs.ClientEnds.{commands, client_feeds, client_breaks}
 use Rattle.law_refinement.proofs.Times.{ticks, tick_stops}
-use Rattle.mr_headline.specs.Runs.{Happens, an_event, nothing_seen}
+use Rattle.law_refinement.specs.Runs.{Happens, an_event, nothing_seen}
 use Rattle.mr_world_parts.specs.AtNode.{is_spent}
 use Rattle.mr_world_parts.specs.declared.side.Side.TheVariants as side
 use Rattle.mr_world.specs.Calls.{AsksAt, BreakCall, Breaks, ClientCall, Clients, CommandCall, LeaveCall, StartCall, TakeCall}

@@ -4,9 +4,9 @@ use Rattle.std.specs.Prelude.{slice_get}
 use Rattle.law_refinement.specs.State.{WorldState}
 use Rattle.law_refinement.proofs.Beginning.{worlds_begin}
 use Rattle.law_refinement.specs.Worlds.{IsWorld, no_world}
-use Rattle.mr_headline.specs.Runs.{Run, IsMoment, last_of}
-use Rattle.mr_headline.proofs.Moments.{no_silent_difference, true_to_history, histories_stay, runs_go_on}
-use Rattle.mr_headline.proofs.Level.{caught_up_is_level}
+use Rattle.law_refinement.specs.Runs.{Run, IsMoment, last_of}
+use Rattle.law_refinement.proofs.Moments.{no_silent_difference, true_to_history, histories_stay, runs_go_on}
+use Rattle.law_refinement.proofs.Level.{caught_up_is_level}
 use Rattle.mr_world.specs.declared.event.Event.{Event}
 use Rattle.mr_world.specs.declared.refusal.Refusal.{Refusal}
 use Rattle.mr_world.specs.Running.{AreMoments, RunCall, TookAll}

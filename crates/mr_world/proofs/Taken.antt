@@ -4,7 +4,7 @@ use Rattle.std.specs.Prelude.{slice_get}
 use Rattle.std.proofs.lemmas.List.{take_all}
 use Rattle.law_refinement.specs.State.{WorldState}
 use Rattle.law_refinement.specs.Worlds.{IsWorld}
-use Rattle.mr_headline.specs.Runs.{last_of}
+use Rattle.law_refinement.specs.Runs.{last_of}
 use Rattle.mr_world.specs.declared.event.Event.{Event}
 use Rattle.mr_world.specs.Running.{AreMoments, EventCall, TookAll}
 use Rattle.mr_world.specs.Promises.{MomentsAreRuns}

@@ -5,9 +5,9 @@ use Rattle.mr_groups.specs.Folding.{MakesByGroups}
 use Rattle.law_refinement.specs.State.{Slot, WorldState}
 use Rattle.law_files.specs.Worlds.{GoOn, GrownSince, HasGrown}
 use Rattle.law_refinement.specs.Worlds.{no_world}
-use Rattle.mr_headline.specs.Showing.{Shows, Gives, HistoriesGoOn}
-use Rattle.mr_headline.specs.Runs.{CaughtUp, last_of}
-use Rattle.mr_headline.specs.Headline.{IsLevel}
+use Rattle.law_refinement.specs.Showing.{Shows, Gives, HistoriesGoOn}
+use Rattle.law_refinement.specs.Runs.{CaughtUp, last_of}
+use Rattle.law_refinement.specs.Headline.{IsLevel}
 use Rattle.mr_world.specs.declared.event.Event.{Event}
 use Rattle.mr_world.specs.declared.refusal.Refusal.{Refusal}
 use Rattle.mr_world.specs.Running.{RunCall, TookAll}

@@ -3,7 +3,7 @@ use Rattle.std.specs.Prelude.{◌≡◌, ℕ, List, [], ◌∷◌, Bool, true, f
 use Rattle.mr_data.specs.declared.given.Given.{Given}
 use Rattle.law_refinement.specs.State.{Link, WorldState}
 use Rattle.law_refinement.specs.Worlds.{IsWorld}
-use Rattle.mr_headline.specs.Runs.{last_of}
+use Rattle.law_refinement.specs.Runs.{last_of}
 use Rattle.mr_world_parts.specs.declared.side.Side.{Side}
 use Rattle.mr_world_parts.specs.declared.side.Side.TheVariants as side
 use Rattle.mr_world_parts.specs.AtLink.{by_node}

@@ -1,7 +1,7 @@
 use Rattle.std.proofs.Common.{rules, option_copied, IfOk}
 use Rattle.std.proofs.lemmas.Int.{to_z-of_z}
 use Rattle.mr_resp.specs.ReplyView.{view}
-use Rattle.mr_expiry.specs.Expiry.{deadline_at}
+use Rattle.mr_arguments.specs.Expiry.{deadline_at}
 use Rattle.mr_cmd_shared.specs.Answered.{Takes}
 use Rattle.mr_cmd_shared.proofs.PlanLemmas.{on_key_plans_if_ok}
 use Rattle.mr_cmd_key.specs.Expiring.{expire_answer}

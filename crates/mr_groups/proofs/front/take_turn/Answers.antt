@@ -1,5 +1,5 @@
 use Rattle.std.proofs.Common.{rules, ◌≡◌, ◌==◌, true, false, subst}
-use Rattle.mr_replay.specs.Steps.{IsKnownBehind}
+use Rattle.mr_groups.specs.Steps.{IsKnownBehind}
 use Rattle.mr_groups.specs.Readers.HasRead.{partly}
 use Rattle.mr_groups.proofs.Going.{run_lacks, run_waits, run_goes_on}
 use Rattle.mr_groups.proofs.Resuming.{begun_no_note, known_here, may_read, starts_at}

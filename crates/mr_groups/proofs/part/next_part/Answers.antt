@@ -5,7 +5,7 @@ use Rattle.mr_resp.specs.Usual.{commands}
 use Rattle.mr_resp.specs.declared.request.Scan.{Scan}
 use Rattle.mr_groups.specs.Parts.{ReadsWords}
 use Rattle.mr_groups.proofs.Readings.{parts_read, doomed_read}
-use Rattle.mr_replay.proofs.Knowing.{spent_by}
+use Rattle.mr_groups.proofs.KnownTexts.{spent_by}
 use Rattle.mr_groups.proofs.Knowing.{fresh_part}
 use Rattle.mr_groups.proofs.part.next_part.Goals as goal
 

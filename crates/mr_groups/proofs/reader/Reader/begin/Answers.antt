@@ -1,6 +1,6 @@
 use Rattle.std.proofs.Common.{subst}
 use Rattle.mr_groups.specs.Readers.HasRead.{nothing, partly}
-use Rattle.mr_replay.proofs.Knowing.{fresh_may}
+use Rattle.mr_groups.proofs.KnownTexts.{fresh_may}
 use Rattle.mr_groups.specs.Parts.{IsKnownAfter, ReadsPart}
 use Rattle.mr_groups.specs.declared.part.Part.{Part}
 use Rattle.mr_groups.proofs.Openings.{open_start}

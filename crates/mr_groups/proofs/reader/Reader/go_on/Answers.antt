@@ -1,6 +1,6 @@
 use Rattle.std.proofs.Common.{◌+◌, ◌<◌, ◌≤◌, length, sym, ap, subst, arith}
-use Rattle.mr_replay.proofs.Knowing.{fresh_may, may_from}
-use Rattle.mr_replay.proofs.Pieces.{rest_from}
+use Rattle.mr_groups.proofs.KnownTexts.{fresh_may, may_from}
+use Rattle.mr_groups.proofs.Pieces.{rest_from}
 use Rattle.mr_groups.specs.Parts.{IsKnownAfter, ReadsPart}
 use Rattle.mr_groups.specs.Reading.{IsFirstGroup}
 use Rattle.mr_groups.specs.Readers.{AreRead}

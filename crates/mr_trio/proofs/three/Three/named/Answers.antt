@@ -1,7 +1,7 @@
 use Rattle.std.proofs.Common.{◌∙◌, ℕ, List, [], ◌∷◌, ◌++◌, Global, ap, map, refl, subst, sym, take, decimal}
 use Rattle.std.specs.Cow.{cow_slice_items}
 use Rattle.std.specs.declared.borrow.CowSlice.{CowSlice}
-use Rattle.mr_console.specs.Naming.{NamesNode, host}
+use Rattle.mr_trio_script.specs.Naming.{NamesNode, host}
 use Rattle.mr_trio.specs.Asking.{plain, named}
 use Rattle.mr_trio.proofs.three.Three.named.Goals as goal
 

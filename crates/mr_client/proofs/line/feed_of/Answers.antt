@@ -1,5 +1,0 @@
-use Rattle.mr_client.proofs.Feeds.{feed_found}
-use Rattle.mr_client.proofs.line.feed_of.Goals as goal
-
-pub returns : goal.returns
-returns c = feed_found c.args.bytes.now c.feed_place.result c.feed_place.ensures

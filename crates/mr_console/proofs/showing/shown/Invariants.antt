@@ -1,7 +1,0 @@
-use Rattle.std.proofs.Common.{◌≡◌, take}
-use Rattle.mr_console.specs.Shown.{shown}
-use Rattle.mr_console.proofs.showing.shown.Given as goal
-
--- the bytes so far stand in the text
-abbrev pub invariant-loop-byte : goal.invariant-loop-byte
-invariant-loop-byte l = l.text.items ≡ shown (take l.byte-index l.bytes)

@@ -1,4 +1,0 @@
-pub mod Histories
-pub mod Moments
-pub mod Level
-pub mod Starting

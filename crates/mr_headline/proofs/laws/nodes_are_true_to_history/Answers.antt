@@ -1,9 +1,0 @@
-use Rattle.mr_headline.proofs.Histories.{gives_one}
-use Rattle.mr_headline.proofs.Moments.{true_to_history}
-use Rattle.mr_headline.proofs.laws.nodes_are_true_to_history.Goals as goal
-
-pub returns-clause-nodes : goal.returns-clause-nodes
-returns-clause-nodes c = true_to_history
-
-pub returns-clause-one : goal.returns-clause-one
-returns-clause-one c = gives_one

@@ -1,4 +1,0 @@
-pub mod Commands
-pub mod Knowing
-pub mod Leading
-pub mod Pieces

@@ -1,0 +1,13 @@
+pub mod Asked
+pub mod EndsTold
+pub mod Feeds
+pub mod LineReads
+pub mod LinesPlayed
+pub mod Written
+pub mod Behinds
+pub mod Counts
+pub mod ReplyFeeds
+pub mod Fronts
+pub mod Parts
+pub mod Readings
+pub mod Tops

@@ -1,0 +1,15 @@
+pub mod Asking
+pub mod Conduct
+pub mod Faults
+pub mod Inputs
+pub mod Lines
+pub mod Naming
+pub mod Outputs
+pub mod Places
+pub mod Scripts
+pub mod Shown
+pub mod Telling
+pub mod Heads
+pub mod ReplyLines
+pub mod Replies
+pub mod State
