@@ -4,6 +4,7 @@ use Rattle.std.specs.Prelude.{OnOk, ◌↔◌, if◌then◌else◌}
 use Rattle.mr_effect.specs.Effects.{words_fit, has_spelling}
 use Rattle.mr_effect.specs.declared.effect.Effect.{Effect}
 use Rattle.std.specs.FinMap.{empty}
+use Rattle.mr_bytes.proofs.Both.{first, second}
 use Rattle.mr_keyspace.specs.Dataset.{Dataset}
 use Rattle.mr_data.specs.Dataset.{IsDataset}
 use Rattle.mr_keyspace.specs.Changes.{change}
@@ -11,7 +12,6 @@ use Rattle.mr_data.specs.Meaning.{apply}
 use Rattle.mr_keyspace.specs.Outcome.{Applies}
 use Rattle.mr_keyspace.specs.declared.fault.ApplyFault.{ApplyFault}
 use Rattle.mr_keyspace.specs.declared.fault.ApplyFault.TheVariants.{Refused, Memory}
-use Rattle.mr_keyspace.proofs.Both.{first, second}
 use Rattle.mr_data.proofs.Datasets.{IsDataset-empty}
 use Rattle.mr_data.proofs.Changes.{applied_keeps}
 

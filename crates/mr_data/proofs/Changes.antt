@@ -13,6 +13,7 @@ use Rattle.mr_effect.specs.declared.effect.Effect.{Effect}
 use Rattle.mr_effect.specs.declared.effect.Effect.TheVariants as effect
 use Rattle.mr_bytes.specs.declared.ends.End.{End}
 use Rattle.mr_bytes.specs.declared.ends.Side.{Side}
+use Rattle.mr_bytes.proofs.Both.{first, second}
 use Rattle.mr_keyspace.specs.declared.value.Value.TheVariants as value
 use Rattle.mr_keyspace.specs.declared.value.Entry.{Entry}
 use Rattle.mr_keyspace.specs.Dataset.{Dataset}
@@ -24,7 +25,6 @@ use Rattle.mr_keyspace.specs.Outcome.{Applies}
 use Rattle.mr_keyspace.specs.declared.fault.ApplyFault.{ApplyFault}
 use Rattle.mr_keyspace.specs.declared.fault.ApplyFault.TheVariants.{Refused, Memory}
 use Rattle.mr_data.proofs.Fitting.{FieldsFit, MembersFit, ScoresFit, ItemsFit, with_fields_fit, without_fields_fit, with_members_fit, without_members_fit, with_scores_fit, without_scores_fit, put_item_fits, pushed_fit, popped_fit, end_item_fits, inserted_fit, set_fit, range_fit, without_fit}
-use Rattle.mr_keyspace.proofs.Both.{first, second}
 use Rattle.mr_data.proofs.Datasets.{IsDataset-empty, Keeps, lifetime, at_key_keeps, on_keeps, held_suits, entry_at, hashes_suit, lists_suit, sets_suit, sorted_sets_suit}
 use Rattle.mr_data.proofs.TextChanges.{append_keeps, set_range_keeps, increase_keeps, with_texts_keeps, rename_keeps}
 

@@ -5,7 +5,6 @@ use Rattle.std.specs.declared.cmp.Ordering.{Ordering}
 use Rattle.std.specs.declared.cmp.Ordering.TheVariants.{Less, Equal, Greater}
 use Rattle.std.specs.Ordering.{int_cmp, is_gt, ordering_then}
 use Rattle.std.specs.List.{AllByRecursion, flat_map}
-use Rattle.std.specs.Option.{option_and_then}
 use Rattle.std.specs.FinMap.{get, keys}
 use Rattle.std.proofs.lemmas.Int.{ints}
 use Rattle.std.proofs.lemmas.Cmp.{int_ranked}
@@ -21,12 +20,12 @@ use Rattle.mr_zset.proofs.Orders.{Above, Ascends, Ascends-in_order, IsPermutatio
 use Rattle.mr_zset.proofs.PairLemmas.{pairs_total, exact_pair}
 use Rattle.mr_keyspace.specs.Dataset.{Dataset}
 use Rattle.mr_keyspace.specs.Steps.{deadline_of}
-use Rattle.mr_keyspace.specs.TimedKeys.{shown as entered, timed, timed_keys}
+use Rattle.mr_keyspace.specs.TimedKeys.{dated as entered, timed, timed_keys}
 use Rattle.mr_keyspace.specs.declared.timed_key.TimedKey.{TimedKey}
 use Rattle.mr_keyspace.specs.declared.value.Entry.{Entry}
 use Rattle.mr_data.specs.Dataset.{IsDataset}
 use Rattle.mr_data.specs.declared.due.DueKey.{DueKey}
-use Rattle.mr_data.specs.Due.{deadline_at, if_expired, due, shown, HasWord}
+use Rattle.mr_data.specs.Due.{if_expired, due, dated, HasWord}
 
 abbrev Pair : Type 0
 Pair = Bytes × ℤ
@@ -35,14 +34,14 @@ Pair = Bytes × ℤ
 abbrev pub expired : ℤ → Pair → Bool
 expired now p = int_le p.1 now
 
-one_key : (now : ℤ) (k : Bytes) (o : Option Entry) → if_expired now k (option_and_then (λ e. e.deadline) o) ≡ filter (expired now) (timed k (deadline_of o))
+one_key : (now : ℤ) (k : Bytes) (o : Option Entry) → if_expired now k (deadline_of o) ≡ filter (expired now) (timed k (deadline_of o))
 one_key now k None = refl
 one_key now k (Some e) = elim e.deadline as (λ (d : Option ℤ). if_expired now k d ≡ filter (expired now) (timed k d)) [
   | None ↦ refl
   | Some d ↦ refl
 ]
 
-each_key : (now : ℤ) (m : Dataset) (ks : List Bytes) → flat_map (λ k. if_expired now k (deadline_at m k)) ks ≡ filter (expired now) (flat_map (λ k. timed k (deadline_of (get m k))) ks)
+each_key : (now : ℤ) (m : Dataset) (ks : List Bytes) → flat_map (λ k. if_expired now k (deadline_of (get m k))) ks ≡ filter (expired now) (flat_map (λ k. timed k (deadline_of (get m k))) ks)
 each_key now m [] = refl
 each_key now m (k ∷ ks) =
     (λ i. one_key now k (get m k) i ++ each_key now m ks i)
@@ -124,62 +123,62 @@ take-all (suc n) (p ∷ ps) h = ap (λ (qs : List Pair). p ∷ qs) (take-all n p
 
 -- what was found, and what is still to come
 pub record Taking (now : ℤ) (most : ℕ) (m : Dataset) (found : List DueKey) (rest : List TimedKey) : Type 0 where
-  pub all : map shown found ++ map entered rest ≡ timed_keys m
-  pub expired : filter (expired now) (map shown found) ≡ map shown found
+  pub all : map dated found ++ map entered rest ≡ timed_keys m
+  pub expired : filter (expired now) (map dated found) ≡ map dated found
   pub few : length found ≤ most
 
 module _ {now : ℤ} {most : ℕ} {m : Dataset} {found : List DueKey} {rest : List TimedKey} (taking : Taking now most m found rest) where
   -- what stands in front of what isn't expired
-  only_found : filter (expired now) (map entered rest) ≡ [] → map shown found ≡ take most (due now m)
+  only_found : filter (expired now) (map entered rest) ≡ [] → map dated found ≡ take most (due now m)
   only_found none =
-      sym (ap (take most) (due_is now m ∙ ap (filter (expired now)) (sym taking.all) ∙ filter-append (expired now) (map shown found) (map entered rest) ∙ (λ i. taking.expired i ++ none i) ∙ append-nil (map shown found))
-      ∙ take-all most (map shown found) (omega (arith, taking.few, length-map found shown)))
+      sym (ap (take most) (due_is now m ∙ ap (filter (expired now)) (sym taking.all) ∙ filter-append (expired now) (map dated found) (map entered rest) ∙ (λ i. taking.expired i ++ none i) ∙ append-nil (map dated found))
+      ∙ take-all most (map dated found) (omega (arith, taking.few, length-map found dated)))
 
-  pub at_end : rest ≡ [] → map shown found ≡ take most (due now m)
+  pub at_end : rest ≡ [] → map dated found ≡ take most (due now m)
   at_end none = only_found (ap (λ (xs : List TimedKey). filter (expired now) (map entered xs)) none)
 
-  pub at_later : (x : TimedKey) (xs : List TimedKey) → rest ≡ x ∷ xs → int_le x.deadline now ≡ false → map shown found ≡ take most (due now m)
+  pub at_later : (x : TimedKey) (xs : List TimedKey) → rest ≡ x ∷ xs → int_le x.deadline now ≡ false → map dated found ≡ take most (due now m)
   at_later x xs is out =
-      let up : Ascends pair_cmp (map entered (x ∷ xs)) = Ascends-behind (map shown found) (map entered (x ∷ xs)) (subst (Ascends pair_cmp) (sym taking.all ∙ ap (λ (ys : List TimedKey). map shown found ++ map entered ys) is) (Ascends-in_order pairs_total (flat_map (λ k. timed k (deadline_of (get m k))) (keys m)))) in
+      let up : Ascends pair_cmp (map entered (x ∷ xs)) = Ascends-behind (map dated found) (map entered (x ∷ xs)) (subst (Ascends pair_cmp) (sym taking.all ∙ ap (λ (ys : List TimedKey). map dated found ++ map entered ys) is) (Ascends-in_order pairs_total (flat_map (λ k. timed k (deadline_of (get m k))) (keys m)))) in
       only_found (ap (λ (ys : List TimedKey). filter (expired now) (map entered ys)) is
       ∙ ap (λ b. cond b (entered x ∷ filter (expired now) (map entered xs)) (filter (expired now) (map entered xs))) out ∙ none_later (entered x) (map entered xs) now up.0 out)
 
-  pub at_full : length found ≡ most → map shown found ≡ take most (due now m)
+  pub at_full : length found ≡ most → map dated found ≡ take most (due now m)
   at_full full =
-      sym (ap (take most) (due_is now m ∙ ap (filter (expired now)) (sym taking.all) ∙ filter-append (expired now) (map shown found) (map entered rest) ∙ ap (λ (ps : List Pair). ps ++ filter (expired now) (map entered rest)) taking.expired)
-      ∙ ap (λ (n : ℕ). take n (map shown found ++ filter (expired now) (map entered rest))) (sym full ∙ sym (length-map found shown)) ∙ take-append_seam (map shown found) (filter (expired now) (map entered rest)))
+      sym (ap (take most) (due_is now m ∙ ap (filter (expired now)) (sym taking.all) ∙ filter-append (expired now) (map dated found) (map entered rest) ∙ ap (λ (ps : List Pair). ps ++ filter (expired now) (map entered rest)) taking.expired)
+      ∙ ap (λ (n : ℕ). take n (map dated found ++ filter (expired now) (map entered rest))) (sym full ∙ sym (length-map found dated)) ∙ take-append_seam (map dated found) (filter (expired now) (map entered rest)))
 
-  pub one_more : (x : TimedKey) (xs : List TimedKey) (d : DueKey) (more : List DueKey) → rest ≡ x ∷ xs → shown d ≡ entered x → int_le x.deadline now ≡ true → more ≡ found ++ d ∷ [] → (length found ≡ most → ⊥) → Taking now most m more xs
+  pub one_more : (x : TimedKey) (xs : List TimedKey) (d : DueKey) (more : List DueKey) → rest ≡ x ∷ xs → dated d ≡ entered x → int_le x.deadline now ≡ true → more ≡ found ++ d ∷ [] → (length found ≡ most → ⊥) → Taking now most m more xs
   one_more x xs d more is same here pushed room = record {
-    all = ap (λ (ds : List DueKey). map shown ds ++ map entered xs) pushed ∙ ap (λ (ps : List Pair). ps ++ map entered xs) (map_push shown found d) ∙ append_assoc (map shown found) (shown d ∷ []) (map entered xs)
-        ∙ ap (λ (p : Pair). map shown found ++ p ∷ map entered xs) same ∙ ap (λ (ys : List TimedKey). map shown found ++ map entered ys) (sym is) ∙ taking.all;
-    expired = ap (λ (ds : List DueKey). filter (expired now) (map shown ds)) pushed ∙ ap (filter (expired now)) (map_push shown found d) ∙ filter-append (expired now) (map shown found) (shown d ∷ [])
-        ∙ (λ i. taking.expired i ++ one_expired i) ∙ sym (ap (map shown) pushed ∙ map_push shown found d);
+    all = ap (λ (ds : List DueKey). map dated ds ++ map entered xs) pushed ∙ ap (λ (ps : List Pair). ps ++ map entered xs) (map_push dated found d) ∙ append_assoc (map dated found) (dated d ∷ []) (map entered xs)
+        ∙ ap (λ (p : Pair). map dated found ++ p ∷ map entered xs) same ∙ ap (λ (ys : List TimedKey). map dated found ++ map entered ys) (sym is) ∙ taking.all;
+    expired = ap (λ (ds : List DueKey). filter (expired now) (map dated ds)) pushed ∙ ap (filter (expired now)) (map_push dated found d) ∙ filter-append (expired now) (map dated found) (dated d ∷ [])
+        ∙ (λ i. taking.expired i ++ one_expired i) ∙ sym (ap (map dated) pushed ∙ map_push dated found d);
     few = subst (λ (ds : List DueKey). length ds ≤ most) (sym pushed) (let size : length (found ++ d ∷ []) ≡ length found + 1 = length-append found (d ∷ []) in omega (arith, taking.few, room));
   }
     where
-      one_expired : filter (expired now) (shown d ∷ []) ≡ shown d ∷ []
-      one_expired = ap (λ b. cond b (shown d ∷ []) []) (ap (λ (p : Pair). expired now p) same ∙ here)
+      one_expired : filter (expired now) (dated d ∷ []) ≡ dated d ∷ []
+      one_expired = ap (λ b. cond b (dated d ∷ []) []) (ap (λ (p : Pair). expired now p) same ∙ here)
 
   -- the keys of a dataset are words
   pub each_is_word : IsDataset m → All HasWord found
-  each_is_word kept = All-from_recursion HasWord found (words found (in_front (map shown found) (map entered rest) (subst (AllByRecursion IsWordPair) (sym taking.all) (recursion_from_All IsWordPair (timed_keys m) (words_of m kept)))))
+  each_is_word kept = All-from_recursion HasWord found (words found (in_front (map dated found) (map entered rest) (subst (AllByRecursion IsWordPair) (sym taking.all) (recursion_from_All IsWordPair (timed_keys m) (words_of m kept)))))
     where
-      words : (ds : List DueKey) → AllByRecursion IsWordPair (map shown ds) → AllByRecursion HasWord ds
+      words : (ds : List DueKey) → AllByRecursion IsWordPair (map dated ds) → AllByRecursion HasWord ds
       words [] h = tt
       words (d ∷ ds) h = (h.0, words ds h.1)
 
 pub at_start : (now : ℤ) (most : ℕ) (m : Dataset) (none : List DueKey) (all : List TimedKey) → none ≡ [] → map entered all ≡ timed_keys m → Taking now most m none all
 at_start now most m none all is whole = record {
-  all = ap (λ (ds : List DueKey). map shown ds ++ map entered all) is ∙ whole;
-  expired = ap (λ (ds : List DueKey). filter (expired now) (map shown ds)) is ∙ sym (ap (map shown) is);
+  all = ap (λ (ds : List DueKey). map dated ds ++ map entered all) is ∙ whole;
+  expired = ap (λ (ds : List DueKey). filter (expired now) (map dated ds)) is ∙ sym (ap (map dated) is);
   few = subst (λ (ds : List DueKey). length ds ≤ most) (sym is) (omega arith);
 }
 
 -- what is answered of a timed key
 
 abbrev pub Returned : ℤ → TimedKey → Option DueKey → Type 0
-Returned now x o = MatchOption o (int_le x.deadline now ≡ false) (λ d. (shown d ≡ entered x) × (int_le x.deadline now ≡ true))
+Returned now x o = MatchOption o (int_le x.deadline now ≡ false) (λ d. (dated d ≡ entered x) × (int_le x.deadline now ≡ true))
 
 pub is_out : (now : ℤ) (x : TimedKey) (o : Option DueKey) → Returned now x o → ((d : DueKey) → o ≡ Some d → ⊥) → int_le x.deadline now ≡ false
 is_out now x None h none = h
@@ -189,9 +188,9 @@ pub is_none : (now : ℤ) (x : TimedKey) (o : Option DueKey) → Returned now x 
 is_none now x None h none = h
 is_none now x (Some d) h none = cc
 
-pub is_due : (now : ℤ) (x : TimedKey) (o : Option DueKey) (d : DueKey) → Returned now x o → o ≡ Some d → (shown d ≡ entered x) × (int_le x.deadline now ≡ true)
+pub is_due : (now : ℤ) (x : TimedKey) (o : Option DueKey) (d : DueKey) → Returned now x o → o ≡ Some d → (dated d ≡ entered x) × (int_le x.deadline now ≡ true)
 is_due now x None d h some = cc
-is_due now x (Some e) d h some = (let same : e ≡ d = cc in subst (λ (z : DueKey). (shown z ≡ entered x) × (int_le x.deadline now ≡ true)) same h)
+is_due now x (Some e) d h some = (let same : e ≡ d = cc in subst (λ (z : DueKey). (dated z ≡ entered x) × (int_le x.deadline now ≡ true)) same h)
 
 -- ---- the first of an index
 

@@ -1,5 +1,5 @@
 -- Entries of maps: their keys are apart, each is what its key has, and put one after another they make the map.
-use Rattle.std.proofs.Common.{ℤ, ◌≡◌, List, [], ◌∷◌, map, Bool, true, false, ◌&&◌, cond, Option, Some, None, refl, sym, ◌∙◌, ap, T}
+use Rattle.std.proofs.Common.{ℤ, ◌≡◌, List, [], ◌∷◌, map, Bool, true, false, cond, Option, Some, None, refl, sym, ◌∙◌, ap, T}
 use Rattle.std.specs.List.{AllByRecursion, list_all}
 use Rattle.std.specs.Ordering.{is_eq, is_lt, eq_by_cmp, ordering_reverse}
 use Rattle.std.specs.declared.cmp.Ordering.{Ordering}
@@ -8,20 +8,14 @@ use Rattle.std.specs.FinMap.{get, empty, insert, entries, find, is_sorted, entri
 use Rattle.std.specs.FinMap.Entries.{below_all}
 use Rattle.std.proofs.lemmas.Cmp.{nat_list_cmp_total}
 use Rattle.std.proofs.lemmas.Map.Lookups.{exact_bytes}
+use Rattle.std.proofs.lemmas.Bool.{and_from}
 use Rattle.mr_map.specs.Bytes.{Bytes, ByteMap, bytes_cmp}
+use Rattle.mr_map.proofs.Conditions.{first_holds, second_holds}
 use Rattle.mr_keyspace.specs.Collections.{with_fields, with_members, with_scores}
 use Rattle.mr_keyspace.proofs.Maps.{same_key}
 use Rattle.mr_keyspace.proofs.Puts.{is_key_itself, is_key_symm}
 
-left : (a b : Bool) → T (a && b) → T a
-left true b h = tt
-left false b h = absurd h
-
-right : (a b : Bool) → T (a && b) → T b
-right true b h = h
-right false b h = absurd h
-
-turned : (r : Ordering) → T (is_lt r) → is_eq (ordering_reverse r) ≡ false
+pub turned : (r : Ordering) → T (is_lt r) → is_eq (ordering_reverse r) ≡ false
 turned Less h = refl
 turned Equal h = absurd h
 turned Greater h = absurd h
@@ -30,13 +24,9 @@ pub all_map : {X : Type 0} (P Q : X → Type 0) → ((x : X) → P x → Q x) �
 all_map P Q f [] h = tt
 all_map P Q f (x ∷ xs) h = (f x h.0, all_map P Q f xs h.1)
 
-both : (a b : Bool) → a ≡ true → b ≡ true → (a && b) ≡ true
-both true b h i = i
-both false b h i = cc
-
 pub all_true : {X : Type 0} (p : X → Bool) (xs : List X) → AllByRecursion (λ x. p x ≡ true) xs → list_all p xs ≡ true
 all_true p [] h = refl
-all_true p (x ∷ xs) h = both (p x) _ h.0 (all_true p xs h.1)
+all_true p (x ∷ xs) h = and_from (p x) _ h.0 (all_true p xs h.1)
 
 module _ {X : Type 0} where
   abbrev pub AreApart : List (Bytes × X) → Type 0
@@ -45,11 +35,11 @@ module _ {X : Type 0} where
 
   below_apart : (k : Bytes) (es : List (Bytes × X)) → T (below_all bytes_cmp k es) → AllByRecursion (λ (x : Bytes × X). eq_by_cmp bytes_cmp x.0 k ≡ false) es
   below_apart k [] h = tt
-  below_apart k (e ∷ es) h = (ap is_eq (nat_list_cmp_total.antisymm e.0 k) ∙ turned (bytes_cmp k e.0) (left _ _ h), below_apart k es (right (is_lt (bytes_cmp k e.0)) _ h))
+  below_apart k (e ∷ es) h = (ap is_eq (nat_list_cmp_total.antisymm e.0 k) ∙ turned (bytes_cmp k e.0) (first_holds _ _ h), below_apart k es (second_holds (is_lt (bytes_cmp k e.0)) _ h))
 
   sorted_apart : (es : List (Bytes × X)) → T (is_sorted bytes_cmp es) → AreApart es
   sorted_apart [] h = tt
-  sorted_apart (e ∷ es) h = (below_apart e.0 es (left _ _ h), sorted_apart es (right (below_all bytes_cmp e.0 es) _ h))
+  sorted_apart (e ∷ es) h = (below_apart e.0 es (first_holds _ _ h), sorted_apart es (second_holds (below_all bytes_cmp e.0 es) _ h))
 
   pub entries_apart : (m : ByteMap X) → AreApart (entries m)
   entries_apart m = sorted_apart (entries m) (entries_sorted m)

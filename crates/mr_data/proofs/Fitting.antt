@@ -14,9 +14,9 @@ use Rattle.mr_effect.specs.Effects.{pair_fits, member_fits, has_score}
 use Rattle.mr_score.specs.Score.{is_score}
 use Rattle.mr_bytes.specs.declared.ends.End.{End}
 use Rattle.mr_bytes.specs.declared.ends.End.TheVariants.{Left, Right}
+use Rattle.mr_bytes.proofs.Both.{first, second}
 use Rattle.mr_data.specs.Dataset.{IsWord}
 use Rattle.mr_keyspace.specs.Collections.{with_fields, without_fields, with_members, without_members, with_scores, without_scores, put_item, pushed, popped, end_item}
-use Rattle.mr_keyspace.proofs.Both.{first, second}
 use Rattle.mr_keyspace.proofs.Maps.{same_key}
 
 -- ---- hashes

@@ -3,9 +3,11 @@ use Rattle.std.proofs.Common.{ℤ, ◌≡◌, List, [], ◌∷◌, ◌++◌, Boo
 use Rattle.std.specs.Prelude.{◌≢◌, IsTrue}
 use Rattle.std.specs.List.{list_all}
 use Rattle.std.specs.FinMap.{insert}
+use Rattle.std.proofs.lemmas.Bool.{and_from}
 use Rattle.mr_map.specs.Bytes.{Bytes, ByteMap}
 use Rattle.mr_bytes.specs.Words.{fits}
 use Rattle.mr_bytes.specs.declared.ends.End.{End}
+use Rattle.mr_bytes.proofs.Both.{first, second}
 use Rattle.mr_effect.specs.Effects.{pair_fits, member_fits, has_score, is_some_of}
 use Rattle.mr_effect.specs.declared.effect.Effect.TheVariants as effect
 use Rattle.mr_keyspace.specs.Collections.{with_fields, with_members, with_scores, put_item, pushed}
@@ -17,19 +19,7 @@ use Rattle.mr_effect.proofs.Appending.{length-pairs, length-scores}
 use Rattle.mr_effect.proofs.Texts.{short_effect}
 use Rattle.mr_data.proofs.Running.{IsStep, IsFold}
 
-both : (a b : Bool) → a ≡ true → b ≡ true → (a && b) ≡ true
-both true b h i = i
-both false b h i = cc
-
-left : (a b : Bool) → (a && b) ≡ true → a ≡ true
-left true b h = refl
-left false b h = cc
-
-right : (a b : Bool) → (a && b) ≡ true → b ≡ true
-right true b h = h
-right false b h = cc
-
-some_of : {X : Type 0} (xs : List X) → xs ≢ [] → is_some_of xs ≡ true
+pub some_of : {X : Type 0} (xs : List X) → xs ≢ [] → is_some_of xs ≡ true
 some_of [] h = absurd (h refl)
 some_of (x ∷ xs) h = refl
 
@@ -51,7 +41,7 @@ setting_fields = record {
 pub set_fields_is_step : (k : Bytes) → IsTrue (fits k) → (g : List (Bytes × Bytes)) → IsGroup pair_fits g → IsStep k (effect.SetFields k g) (set_fields_step g)
 unfolding change
 set_fields_is_step k fit g i = record {
-  possible = both (is_some_of g) _ (some_of g i.some) (both (fits k) _ fit i.all);
+  possible = and_from (is_some_of g) _ (some_of g i.some) (and_from (fits k) _ fit i.all);
   short = short_effect (effect.SetFields k g) (omega (arith, length-pairs g, i.few));
   is = λ m. refl;
 }
@@ -71,7 +61,7 @@ pushing end = record {
 pub push_is_step : (k : Bytes) (end : End) → IsTrue (fits k) → (g : List Bytes) → IsGroup fits g → IsStep k (effect.Push k end g) (push_step end g)
 unfolding change
 push_is_step k end fit g i = record {
-  possible = both (is_some_of g) _ (some_of g i.some) (both (fits k) _ fit i.all);
+  possible = and_from (is_some_of g) _ (some_of g i.some) (and_from (fits k) _ fit i.all);
   short = short_effect (effect.Push k end g) (omega (arith, i.few));
   is = λ m. refl;
 }
@@ -91,7 +81,7 @@ adding_members = record {
 pub add_members_is_step : (k : Bytes) → IsTrue (fits k) → (g : List Bytes) → IsGroup fits g → IsStep k (effect.AddMembers k g) (add_members_step g)
 unfolding change
 add_members_is_step k fit g i = record {
-  possible = both (is_some_of g) _ (some_of g i.some) (both (fits k) _ fit i.all);
+  possible = and_from (is_some_of g) _ (some_of g i.some) (and_from (fits k) _ fit i.all);
   short = short_effect (effect.AddMembers k g) (omega (arith, i.few));
   is = λ m. refl;
 }
@@ -115,14 +105,14 @@ is_kept p = member_fits p && has_score p
 parted : (g : List (Bytes × ℤ)) → list_all is_kept g ≡ true → (list_all member_fits g ≡ true) × (list_all has_score g ≡ true)
 parted [] h = (refl, refl)
 parted (p ∷ ps) h =
-    let here = left (is_kept p) _ h in
-    let rest = parted ps (right (is_kept p) _ h) in
-    (both (member_fits p) _ (left (member_fits p) _ here) rest.0, both (has_score p) _ (right (member_fits p) _ here) rest.1)
+    let here = first (is_kept p) _ h in
+    let rest = parted ps (second (is_kept p) _ h) in
+    (and_from (member_fits p) _ (first (member_fits p) _ here) rest.0, and_from (has_score p) _ (second (member_fits p) _ here) rest.1)
 
 pub set_scores_is_step : (k : Bytes) → IsTrue (fits k) → (g : List (Bytes × ℤ)) → IsGroup is_kept g → IsStep k (effect.SetScores k g) (set_scores_step g)
 unfolding change
 set_scores_is_step k fit g i = record {
-  possible = both (is_some_of g && list_all has_score g) _ (both (is_some_of g) _ (some_of g i.some) (parted g i.all).1) (both (fits k) _ fit (parted g i.all).0);
+  possible = and_from (is_some_of g && list_all has_score g) _ (and_from (is_some_of g) _ (some_of g i.some) (parted g i.all).1) (and_from (fits k) _ fit (parted g i.all).0);
   short = short_effect (effect.SetScores k g) (omega (arith, length-scores g, i.few));
   is = λ m. refl;
 }

@@ -1,46 +1,44 @@
 -- What each kind of collection keeps.
-use Rattle.std.proofs.Common.{◌≡◌, ◌<◌, ℕ, ℤ, suc, List, [], ◌∷◌, length, true, false, Some, None, refl, sym, ◌∙◌, ap, arith}
+use Rattle.std.proofs.Common.{◌≡◌, ℕ, ℤ, suc, List, [], ◌∷◌, length, true, false, Some, None, refl, sym, ◌∙◌, ap, arith}
 use Rattle.std.specs.Prelude.{◌==◌}
 use Rattle.std.specs.FinMap.{get, len, empty_of_len}
-use Rattle.std.proofs.lemmas.Bool.{ne_eqb, eqb-true}
+use Rattle.std.proofs.lemmas.Bool.{eqb-true}
+use Rattle.std.proofs.lemmas.Option.{same_Some}
 use Rattle.mr_map.specs.Bytes.{Bytes, ByteMap}
 use Rattle.mr_keyspace.specs.Dataset.{Dataset}
 use Rattle.mr_data.specs.Dataset.{IsDataset, IsValue}
 use Rattle.mr_keyspace.specs.Steps.{hashes, lists, sets, sorted_sets, hash_of, list_of, set_of, sorted_set_of}
 use Rattle.mr_keyspace.specs.declared.value.Value.{Value}
 use Rattle.mr_keyspace.specs.declared.value.Value.TheVariants as value
-use Rattle.mr_keyspace.proofs.Nonempty.{no_elements}
+use Rattle.mr_keyspace.proofs.Nonempty.{no_elements, positive}
 use Rattle.mr_data.proofs.Running.{IsKind, IsKept}
-
-same_some : {X : Type 0} {x y : X} → Some x ≡ Some y → x ≡ y
-same_some h = cc
 
 not_none : {X : Type 0} {x : X} → None ≡ Some x → ⊥
 not_none h = cc
 
 hash_value : (v : Value) (x : ByteMap Bytes) → hash_of v ≡ Some x → value.Hash x ≡ v
-hash_value (value.Hash y) x h = ap value.Hash (sym (same_some h))
+hash_value (value.Hash y) x h = ap value.Hash (sym (same_Some _ _ h))
 hash_value (value.Text y) x h = absurd (not_none h)
 hash_value (value.List y) x h = absurd (not_none h)
 hash_value (value.Set y) x h = absurd (not_none h)
 hash_value (value.SortedSet y) x h = absurd (not_none h)
 
 list_value : (v : Value) (x : List Bytes) → list_of v ≡ Some x → value.List x ≡ v
-list_value (value.List y) x h = ap value.List (sym (same_some h))
+list_value (value.List y) x h = ap value.List (sym (same_Some _ _ h))
 list_value (value.Text y) x h = absurd (not_none h)
 list_value (value.Hash y) x h = absurd (not_none h)
 list_value (value.Set y) x h = absurd (not_none h)
 list_value (value.SortedSet y) x h = absurd (not_none h)
 
 set_value : (v : Value) (x : ByteMap (Unit {0})) → set_of v ≡ Some x → value.Set x ≡ v
-set_value (value.Set y) x h = ap value.Set (sym (same_some h))
+set_value (value.Set y) x h = ap value.Set (sym (same_Some _ _ h))
 set_value (value.Text y) x h = absurd (not_none h)
 set_value (value.Hash y) x h = absurd (not_none h)
 set_value (value.List y) x h = absurd (not_none h)
 set_value (value.SortedSet y) x h = absurd (not_none h)
 
 sorted_set_value : (v : Value) (x : ByteMap ℤ) → sorted_set_of v ≡ Some x → value.SortedSet x ≡ v
-sorted_set_value (value.SortedSet y) x h = ap value.SortedSet (sym (same_some h))
+sorted_set_value (value.SortedSet y) x h = ap value.SortedSet (sym (same_Some _ _ h))
 sorted_set_value (value.Text y) x h = absurd (not_none h)
 sorted_set_value (value.Hash y) x h = absurd (not_none h)
 sorted_set_value (value.List y) x h = absurd (not_none h)
@@ -86,32 +84,29 @@ sorted_sets_are = record {
 }
 
 -- ---- a collection in a dataset has an element
-positive : (n : ℕ) → 0 < n → (n == 0) ≡ false
-positive n h = ne_eqb n 0 (λ e. omega (arith, e, h))
-
 hash_some : (v : Value) (x : ByteMap Bytes) → IsValue v → hash_of v ≡ Some x → (len x == 0) ≡ false
-hash_some (value.Hash y) x i h = ap (λ (z : ByteMap Bytes). len z == 0) (sym (same_some h)) ∙ positive (len y) i.some
+hash_some (value.Hash y) x i h = ap (λ (z : ByteMap Bytes). len z == 0) (sym (same_Some _ _ h)) ∙ positive (len y) i.some
 hash_some (value.Text y) x i h = absurd (not_none h)
 hash_some (value.List y) x i h = absurd (not_none h)
 hash_some (value.Set y) x i h = absurd (not_none h)
 hash_some (value.SortedSet y) x i h = absurd (not_none h)
 
 list_some : (v : Value) (x : List Bytes) → IsValue v → list_of v ≡ Some x → (length x == 0) ≡ false
-list_some (value.List y) x i h = ap (λ (z : List Bytes). length z == 0) (sym (same_some h)) ∙ positive (length y) i.some
+list_some (value.List y) x i h = ap (λ (z : List Bytes). length z == 0) (sym (same_Some _ _ h)) ∙ positive (length y) i.some
 list_some (value.Text y) x i h = absurd (not_none h)
 list_some (value.Hash y) x i h = absurd (not_none h)
 list_some (value.Set y) x i h = absurd (not_none h)
 list_some (value.SortedSet y) x i h = absurd (not_none h)
 
 set_some : (v : Value) (x : ByteMap (Unit {0})) → IsValue v → set_of v ≡ Some x → (len x == 0) ≡ false
-set_some (value.Set y) x i h = ap (λ (z : ByteMap (Unit {0})). len z == 0) (sym (same_some h)) ∙ positive (len y) i.some
+set_some (value.Set y) x i h = ap (λ (z : ByteMap (Unit {0})). len z == 0) (sym (same_Some _ _ h)) ∙ positive (len y) i.some
 set_some (value.Text y) x i h = absurd (not_none h)
 set_some (value.Hash y) x i h = absurd (not_none h)
 set_some (value.List y) x i h = absurd (not_none h)
 set_some (value.SortedSet y) x i h = absurd (not_none h)
 
 sorted_set_some : (v : Value) (x : ByteMap ℤ) → IsValue v → sorted_set_of v ≡ Some x → (len x == 0) ≡ false
-sorted_set_some (value.SortedSet y) x i h = ap (λ (z : ByteMap ℤ). len z == 0) (sym (same_some h)) ∙ positive (len y) i.some
+sorted_set_some (value.SortedSet y) x i h = ap (λ (z : ByteMap ℤ). len z == 0) (sym (same_Some _ _ h)) ∙ positive (len y) i.some
 sorted_set_some (value.Text y) x i h = absurd (not_none h)
 sorted_set_some (value.Hash y) x i h = absurd (not_none h)
 sorted_set_some (value.List y) x i h = absurd (not_none h)

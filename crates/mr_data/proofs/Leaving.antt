@@ -12,7 +12,9 @@ use Rattle.std.proofs.lemmas.Cmp.{nat_list_cmp_total}
 use Rattle.std.proofs.lemmas.List.{length-map, take_more, drop_more}
 use Rattle.std.proofs.lemmas.Map.Lookups.{exact_bytes}
 use Rattle.mr_map.specs.Bytes.{Bytes, ByteMap, bytes_cmp}
+use Rattle.mr_map.proofs.Conditions.{second_holds}
 use Rattle.mr_bytes.specs.Words.{fits}
+use Rattle.mr_bytes.proofs.Both.{first}
 use Rattle.mr_effect.specs.Effects.{words_fit, has_spelling, is_some_of}
 use Rattle.mr_effect.specs.declared.effect.Effect.{Effect}
 use Rattle.mr_effect.specs.declared.effect.Effect.TheVariants as effect
@@ -25,7 +27,6 @@ use Rattle.mr_keyspace.specs.declared.value.Value.TheVariants as value
 use Rattle.mr_keyspace.specs.declared.value.Entry.{Entry}
 use Rattle.mr_keyspace.specs.declared.fault.ApplyFault.{ApplyFault}
 use Rattle.mr_keyspace.specs.declared.fault.ApplyFault.TheVariants.{Refused, Memory}
-use Rattle.mr_keyspace.proofs.Both.{first}
 use Rattle.mr_keyspace.proofs.Maps.{same_key, got, remove_insert}
 use Rattle.mr_data.specs.Dataset.{IsDataset}
 use Rattle.mr_data.specs.Meaning.{apply, apply_all}
@@ -37,16 +38,12 @@ use Rattle.mr_data.proofs.Entries.{AreApart, entries_apart, missing}
 use Rattle.mr_data.proofs.KindLaws.{sorted_sets_are, sorted_sets_kept}
 
 -- ---- the members that are left
-right : (a b : Bool) → T (a && b) → T b
-right true b h = h
-right false b h = absurd h
-
 module _ {X : Type 0} where
   entries_left : (m : ByteMap X) (p : Bytes × X) (es : List (Bytes × X)) → entries m ≡ p ∷ es → entries (remove m p.0) ≡ es
   entries_left m p es is =
       let apart : AreApart (p ∷ es) = subst AreApart is (entries_apart m) in
       let sorted : T (is_sorted bytes_cmp (p ∷ es)) = subst (λ (xs : List (Bytes × X)). T (is_sorted bytes_cmp xs)) is (entries_sorted m) in
-      let behind : T (is_sorted bytes_cmp es) = right (below_all bytes_cmp p.0 es) _ sorted in
+      let behind : T (is_sorted bytes_cmp es) = second_holds (below_all bytes_cmp p.0 es) _ sorted in
       ap entries (same_map nat_list_cmp_total exact_bytes (remove m p.0) (from_sorted es) (λ q.
       get-remove nat_list_cmp_total m p.0 q
       ∙ ap (cond (eq_by_cmp bytes_cmp q p.0) None) (get-entries m q ∙ ap (find bytes_cmp q) is)

@@ -1,16 +1,17 @@
 -- The effects that make a dataset again do so.
-use Rattle.std.proofs.Common.{ℕ, ℤ, ◌≡◌, ◌<◌, List, [], ◌∷◌, ◌++◌, map, length, Bool, true, false, ◌&&◌, IsTrue, Option, Some, None, refl, sym, ◌∙◌, ap, subst, cond, append_assoc, append-nil, arith}
-use Rattle.std.specs.Prelude.{◌≢◌, ◌==◌, if◌then◌else◌, is_some}
+use Rattle.std.proofs.Common.{ℕ, ℤ, ◌≡◌, ◌<◌, List, [], ◌∷◌, ◌++◌, map, length, Bool, true, false, IsTrue, Option, Some, None, refl, sym, ◌∙◌, ap, subst, cond, append_assoc, append-nil, arith}
+use Rattle.std.specs.Prelude.{◌≢◌, if◌then◌else◌, is_some}
 use Rattle.std.specs.List.{All, AllByRecursion, flat_map, list_all}
 use Rattle.std.specs.Option.{option_map, option_and_then}
 use Rattle.std.specs.Ordering.{eq_by_cmp}
 use Rattle.std.specs.FinMap.{get, empty, insert, entries, keys, len, len-entries, get-empty, get-insert}
-use Rattle.std.proofs.lemmas.Bool.{ne_eqb}
+use Rattle.std.proofs.lemmas.Bool.{and_from}
 use Rattle.std.proofs.lemmas.Cmp.{nat_list_cmp_total}
 use Rattle.std.proofs.lemmas.List.Elements.{recursion_from_All, All-from_recursion}
 use Rattle.mr_map.specs.Bytes.{Bytes, bytes_cmp}
 use Rattle.mr_bytes.specs.Words.{fits}
 use Rattle.mr_bytes.specs.declared.ends.End.TheVariants.{Right}
+use Rattle.mr_bytes.proofs.Both.{first, second}
 use Rattle.mr_effect.specs.Effects.{pair_fits, has_spelling, words_fit}
 use Rattle.mr_effect.specs.Spelling.{IsShort}
 use Rattle.mr_effect.specs.declared.effect.Effect.{Effect}
@@ -24,8 +25,8 @@ use Rattle.mr_keyspace.specs.Changes.{change}
 use Rattle.mr_keyspace.specs.declared.value.Value.{Value}
 use Rattle.mr_keyspace.specs.declared.value.Value.TheVariants as value
 use Rattle.mr_keyspace.specs.declared.value.Entry.{Entry}
-use Rattle.mr_keyspace.proofs.Both.{first, second}
 use Rattle.mr_keyspace.proofs.Cutting.{IsGroup, cut_whole, no_cut, cut_groups}
+use Rattle.mr_keyspace.proofs.Nonempty.{positive}
 use Rattle.mr_data.specs.Dataset.{IsWord, IsDataset, IsEntry, IsValue, IsLifetime}
 use Rattle.mr_data.specs.Meaning.{apply_all}
 use Rattle.mr_data.specs.Rebuilding.{rebuilt_value, rebuilt_deadline, rebuilt, rebuilding}
@@ -76,12 +77,6 @@ module _ {A X : Type 0} (kind : Kind X) (laws : IsKind kind) (k : Bytes) (make :
       }
 
 -- ---- what a dataset keeps of a collection, item by item
-both : (a b : Bool) → a ≡ true → b ≡ true → (a && b) ≡ true
-both true b h i = i
-both false b h i = cc
-
-not_zero : (n : ℕ) → 0 < n → (n == 0) ≡ false
-not_zero n h = ne_eqb n 0 (λ e. omega (arith, e, h))
 
 some_items : {X : Type 0} (xs : List X) (n : ℕ) → n ≡ length xs → 0 < n → xs ≢ []
 some_items xs n is some none = omega (arith, is, some, ap length none)
@@ -92,7 +87,7 @@ some_names (e ∷ es) some none = cc
 
 all_names : {X : Type 0} (es : List (Bytes × X)) → AllByRecursion (λ e. fits e.0 ≡ true) es → list_all fits (map (λ e. e.0) es) ≡ true
 all_names [] h = refl
-all_names (e ∷ es) h = both (fits e.0) _ h.0 (all_names es h.1)
+all_names (e ∷ es) h = and_from (fits e.0) _ h.0 (all_names es h.1)
 
 pushed_behind : (xs ys : List Bytes) → pushed Right ys xs ≡ xs ++ ys
 pushed_behind xs [] = sym (append-nil xs)
@@ -103,32 +98,32 @@ value_made : (k : Bytes) (v : Value) → IsWord k → IsValue v → Makes k (reb
 unfolding change
 value_made k (value.Text text) named fit = record {
   steps = set_step text ∷ [];
-  are = (record { possible = both (fits k) (fits text) named fit; short = short_effect (effect.Set k text) (omega arith); is = λ m. refl }, tt);
+  are = (record { possible = and_from (fits k) (fits text) named fit; short = short_effect (effect.Set k text) (omega arith); is = λ m. refl }, tt);
   runs = refl;
 }
 value_made k (value.Hash fields) named fit =
     groups_make hashes hashes_are k (effect.SetFields k) with_fields setting_fields pair_fits (set_fields_is_step k named) (entries fields) fields
-    (all_true pair_fits (entries fields) (all_map _ _ (λ x is. both (fits x.0) (fits x.1) (fit.fit x.0 x.1 is).0 (fit.fit x.0 x.1 is).1) (entries fields) (own_entries fields)))
-    (some_items (entries fields) (len fields) (len-entries fields) fit.some) (fields_put (entries fields) empty ∙ put_entries fields) (not_zero (len fields) fit.some)
+    (all_true pair_fits (entries fields) (all_map _ _ (λ x is. and_from (fits x.0) (fits x.1) (fit.fit x.0 x.1 is).0 (fit.fit x.0 x.1 is).1) (entries fields) (own_entries fields)))
+    (some_items (entries fields) (len fields) (len-entries fields) fit.some) (fields_put (entries fields) empty ∙ put_entries fields) (positive (len fields) fit.some)
 value_made k (value.List items) named fit =
     groups_make lists lists_are k (effect.Push k Right) (pushed Right) (pushing Right) fits (push_is_step k Right named) items items
     (all_true fits items (recursion_from_All IsWord items fit.fit))
-    (some_items items (length items) refl fit.some) (pushed_behind [] items) (not_zero (length items) fit.some)
+    (some_items items (length items) refl fit.some) (pushed_behind [] items) (positive (length items) fit.some)
 value_made k (value.Set members) named fit =
     groups_make sets sets_are k (effect.AddMembers k) with_members adding_members fits (add_members_is_step k named) (keys members) members
     (all_names (entries members) (all_map _ _ (λ x is. fit.fit x.0 (ap is_some is)) (entries members) (own_entries members)))
-    (some_names (entries members) (some_items (entries members) (len members) (len-entries members) fit.some)) (members_put (entries members) empty ∙ put_entries members) (not_zero (len members) fit.some)
+    (some_names (entries members) (some_items (entries members) (len members) (len-entries members) fit.some)) (members_put (entries members) empty ∙ put_entries members) (positive (len members) fit.some)
 value_made k (value.SortedSet scores) named fit =
     groups_make sorted_sets sorted_sets_are k (effect.SetScores k) with_scores setting_scores is_kept (set_scores_is_step k named) (entries scores) scores
-    (all_true is_kept (entries scores) (all_map _ _ (λ x is. both (fits x.0) _ (fit.fit x.0 x.1 is).0 (fit.fit x.0 x.1 is).1) (entries scores) (own_entries scores)))
-    (some_items (entries scores) (len scores) (len-entries scores) fit.some) (scores_put (entries scores) empty ∙ put_entries scores) (not_zero (len scores) fit.some)
+    (all_true is_kept (entries scores) (all_map _ _ (λ x is. and_from (fits x.0) _ (fit.fit x.0 x.1 is).0 (fit.fit x.0 x.1 is).1) (entries scores) (own_entries scores)))
+    (some_items (entries scores) (len scores) (len-entries scores) fit.some) (scores_put (entries scores) empty ∙ put_entries scores) (positive (len scores) fit.some)
 
 deadline_made : (k : Bytes) (v : Value) (d : Option ℤ) → IsWord k → IsLifetime d → Makes k (rebuilt_deadline k d) (Some (without_deadline v)) (Some (record { value = v; deadline = d }))
 unfolding change
 deadline_made k v None named is = record { steps = []; are = tt; runs = refl }
 deadline_made k v (Some d) named is = record {
   steps = expire_step d ∷ [];
-  are = (record { possible = both _ (fits k) is named; short = short_effect (effect.Expire k d) (omega arith); is = λ m. refl }, tt);
+  are = (record { possible = and_from _ (fits k) is named; short = short_effect (effect.Expire k d) (omega arith); is = λ m. refl }, tt);
   runs = refl;
 }
 

@@ -11,21 +11,21 @@ use Rattle.mr_map.specs.Bytes.{Bytes}
 use Rattle.mr_bytes.specs.Number.{is_i64, number_of}
 use Rattle.mr_bytes.specs.Texts.{overwritten}
 use Rattle.mr_bytes.specs.Words.{fits}
+use Rattle.mr_bytes.proofs.Both.{first, second}
 use Rattle.mr_effect.specs.Effects.{pair_fits}
 use Rattle.mr_keyspace.specs.Dataset.{Dataset}
 use Rattle.mr_data.specs.Dataset.{IsWord, IsDataset, IsValue}
-use Rattle.mr_keyspace.specs.Steps.{texts, held, same, on, without_deadline, append_step, set_range_step, increase_step}
+use Rattle.mr_keyspace.specs.Steps.{strings, held, same, on, without_deadline, append_step, set_range_step, increase_step}
 use Rattle.mr_keyspace.specs.Texts.{fitting, sum_of, increased}
 use Rattle.mr_keyspace.specs.Changes.{with_texts, rename}
 use Rattle.mr_keyspace.specs.declared.value.Value.{Value}
 use Rattle.mr_keyspace.specs.declared.value.Value.TheVariants as value
-use Rattle.mr_keyspace.proofs.Both.{first, second}
 use Rattle.mr_data.proofs.Datasets.{Keeps, Stands, Suits, on_keeps, put_keeps}
 
-texts_suit : (absent : Bytes) → IsWord absent → Suits (texts absent) IsWord
+texts_suit : (absent : Bytes) → IsWord absent → Suits (strings absent) IsWord
 texts_suit absent fit = record { none = fit; taken = taken_text; put = λ x some is. is }
   where
-    taken_text : (v : Value) (x : Bytes) → (texts absent).of v ≡ Some x → IsValue v → IsWord x
+    taken_text : (v : Value) (x : Bytes) → (strings absent).of v ≡ Some x → IsValue v → IsWord x
     taken_text (value.Text s) x h is = let one : s ≡ x = cc in subst IsWord one is
     taken_text (value.Hash s) x h is = cc
     taken_text (value.List s) x h is = cc
@@ -40,20 +40,20 @@ fitting_fits x y h =
     ] refl h
 
 pub append_keeps : (more : Bytes) → Keeps (append_step more)
-append_keeps more = on_keeps (texts []) IsWord (texts_suit [] refl) (λ text. fitting (text ++ more)) (λ x y fit h. fitting_fits (x ++ more) y h)
+append_keeps more = on_keeps (strings []) IsWord (texts_suit [] refl) (λ text. fitting (text ++ more)) (λ x y fit h. fitting_fits (x ++ more) y h)
 
-same_keeps : (absent : Bytes) → Keeps (same (texts absent))
+same_keeps : (absent : Bytes) → Keeps (same (strings absent))
 same_keeps absent before after has h =
-    elim (held (texts absent) before) as (λ o. option_map (λ x. before) o ≡ Some after → Stands after) [
+    elim (held (strings absent) before) as (λ o. option_map (λ x. before) o ≡ Some after → Stands after) [
       | None ↦ λ i. cc
       | Some x ↦ λ i. let one : before ≡ after = cc in subst Stands one has
     ] h
 
 pub set_range_keeps : (offset : ℤ) (part : Bytes) → Keeps (set_range_step offset part)
 set_range_keeps offset part =
-    elim (length part == 0) as (λ b. Keeps (if b then same (texts []) else on (texts []) (λ text. fitting (overwritten (unsigned_abs offset) part text)))) [
+    elim (length part == 0) as (λ b. Keeps (if b then same (strings []) else on (strings []) (λ text. fitting (overwritten (unsigned_abs offset) part text)))) [
       | true ↦ same_keeps []
-      | false ↦ on_keeps (texts []) IsWord (texts_suit [] refl) (λ text. fitting (overwritten (unsigned_abs offset) part text)) (λ x y fit h. fitting_fits (overwritten (unsigned_abs offset) part x) y h)
+      | false ↦ on_keeps (strings []) IsWord (texts_suit [] refl) (λ text. fitting (overwritten (unsigned_abs offset) part text)) (λ x y fit h. fitting_fits (overwritten (unsigned_abs offset) part x) y h)
     ]
 
 number_fits : (n : ℤ) → is_i64 n ≡ true → IsWord (signed_decimal n)
@@ -77,7 +77,7 @@ increased_fits by x y h =
     ] h
 
 pub increase_keeps : (by : ℤ) → Keeps (increase_step by)
-increase_keeps by = on_keeps (texts (codes "0")) IsWord (texts_suit (codes "0") refl) (increased by) (λ x y fit h. increased_fits by x y h)
+increase_keeps by = on_keeps (strings (codes "0")) IsWord (texts_suit (codes "0") refl) (increased by) (λ x y fit h. increased_fits by x y h)
 
 pub with_texts_keeps : (ps : List (Bytes × Bytes)) (m : Dataset) → IsTrue (list_all pair_fits ps) → IsDataset m → IsDataset (with_texts ps m)
 with_texts_keeps [] m fit old = old

@@ -4,6 +4,7 @@ use Rattle.std.specs.Prelude.{if◌then◌else◌}
 use Rattle.std.specs.List.{list_all}
 use Rattle.std.specs.Option.{option_and_then}
 use Rattle.std.specs.FinMap.{insert}
+use Rattle.mr_bytes.proofs.Both.{first, second}
 use Rattle.mr_map.specs.Bytes.{Bytes}
 use Rattle.mr_effect.specs.Effects.{has_spelling, words_fit, pair_fits, is_some_of}
 use Rattle.mr_effect.specs.declared.effect.Effect.TheVariants as effect
@@ -12,7 +13,6 @@ use Rattle.mr_keyspace.specs.Steps.{without_deadline}
 use Rattle.mr_keyspace.specs.Changes.{change, with_texts}
 use Rattle.mr_data.specs.Meaning.{apply, apply_all}
 use Rattle.mr_keyspace.specs.declared.value.Value.TheVariants as value
-use Rattle.mr_keyspace.proofs.Both.{first, second}
 
 -- one of them
 one_set : (k text : Bytes) (m : Dataset) → IsTrue (words_fit (effect.Set k text)) → apply (effect.Set k text) m ≡ Some (insert m k (without_deadline (value.Text text)))

@@ -1,7 +1,6 @@
 -- The expired keys, in the order in which they are deleted.
 use Rattle.std.specs.Prelude.{IsTrue, ◌-◌, ℕ, ℤ, List, [], ◌∷◌, map, take, int_le, nat_le, if◌then◌else◌, Option, Some, None}
 use Rattle.std.specs.List.{flat_map}
-use Rattle.std.specs.Option.{option_and_then}
 use Rattle.std.specs.FinMap.{get, keys}
 use Rattle.mr_map.specs.Bytes.{Bytes}
 use Rattle.mr_bytes.specs.Words.{fits}
@@ -11,11 +10,8 @@ use Rattle.mr_effect.specs.declared.effect.Effect.TheVariants as effect
 use Rattle.mr_zset.specs.Order.{in_order}
 use Rattle.mr_zset.specs.Pairs.{pair_cmp}
 use Rattle.mr_keyspace.specs.Dataset.{Dataset}
+use Rattle.mr_keyspace.specs.Steps.{deadline_of}
 use Rattle.mr_data.specs.declared.due.DueKey.{DueKey}
-
--- the deadline of a key, where it is there and has one
-abbrev pub deadline_at : Dataset → Bytes → Option ℤ
-deadline_at m k = option_and_then (λ e. e.deadline) (get m k)
 
 -- a key with its deadline, if that has passed at this moment
 abbrev pub if_expired : ℤ → Bytes → Option ℤ → List (Bytes × ℤ)
@@ -24,14 +20,14 @@ if_expired now k (Some d) = if int_le d now then (k, d) ∷ [] else []
 
 -- the expired ones of these keys with their deadlines, in order of deadline and then of key
 abbrev pub due_among : ℤ → Dataset → List Bytes → List (Bytes × ℤ)
-due_among now m ks = in_order pair_cmp (flat_map (λ k. if_expired now k (deadline_at m k)) ks)
+due_among now m ks = in_order pair_cmp (flat_map (λ k. if_expired now k (deadline_of (get m k))) ks)
 
 abbrev pub due : ℤ → Dataset → List (Bytes × ℤ)
 due now m = due_among now m (keys m)
 
 -- what is answered, as a key with its deadline
-abbrev pub shown : DueKey → Bytes × ℤ
-shown d = (d.key.now, d.deadline)
+abbrev pub dated : DueKey → Bytes × ℤ
+dated d = (d.key.now, d.deadline)
 
 -- its key is within the word limit
 abbrev pub HasWord : DueKey → Type 0

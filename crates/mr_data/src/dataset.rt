@@ -2,7 +2,7 @@
 ghost use Rattle.std.specs.Prelude.{◌≡◌, ◌==◌, ◌<◌, ◌^◌, map as each, option_copied};
 ghost use Rattle.std.specs.Option.{option_map, option_and_then};
 ghost use Rattle.std.specs.FinMap as map;
-ghost use Rattle.mr_keyspace.specs.TimedKeys.{count_come, timed_keys, shown};
+ghost use Rattle.mr_keyspace.specs.TimedKeys.{count_come, timed_keys, dated};
 
 mod applying;
 mod together;
@@ -101,7 +101,7 @@ impl Dataset {
 
     /// The keys that have a deadline with it, in order of deadline and then of bytes, expired or not.
     pub(crate) fn timed_keys(&self) -> Iter<'_, TimedKey>
-        ensures all { each shown result ≡ timed_keys self.now }
+        ensures all { each dated result ≡ timed_keys self.now }
         ensures kept { IsDataset self.now }
     {
         self.entries.timed_keys()

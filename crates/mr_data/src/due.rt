@@ -1,9 +1,9 @@
 // The expired keys of a dataset.
 ghost use Rattle.std.specs.Prelude.{◌≡◌, ◌<◌, ◌^◌, IfOk, All, MatchOption, map, take, slice_get, int_le, option_copied, option_map, true, false};
 ghost use Rattle.std.specs.FinMap.{len};
-ghost use Rattle.mr_keyspace.specs.TimedKeys.{shown as entered};
+ghost use Rattle.mr_keyspace.specs.TimedKeys.{dated as entered};
 ghost use Rattle.mr_data.specs.Dataset.{seen};
-ghost use Rattle.mr_data.specs.Due.{due, shown, HasWord};
+ghost use Rattle.mr_data.specs.Due.{due, dated, HasWord};
 
 use crate::dataset::Dataset;
 use mr_keyspace::TimedKey;
@@ -27,7 +27,7 @@ impl Dataset {
         most: usize,
     ) -> Result<Vec<DueKey<'_>>, AllocError>
         ensures keys { IfOk result (λ keys.
-            map shown keys.items ≡ take most (due now self.now)) }
+            map dated keys.items ≡ take most (due now self.now)) }
         ensures words { IfOk result (λ keys. All HasWord keys.items) }
     {
         let mut keys = Vec::new(alloc);
@@ -71,7 +71,7 @@ fn is_expired(timed: &TimedKey, now: i64) -> bool
 /// A key with its deadline, if it is expired at a moment.
 fn if_expired(timed: &TimedKey, now: i64) -> Option<DueKey<'_>>
     ensures { MatchOption result (int_le timed.now.deadline now ≡ false) (λ d.
-        (shown d ≡ entered timed.now) × (int_le timed.now.deadline now ≡ true)) }
+        (dated d ≡ entered timed.now) × (int_le timed.now.deadline now ≡ true)) }
 {
     if !is_expired(timed, now) {
         return None;

@@ -1,15 +1,12 @@
 -- Writers one after the other.
-use Rattle.std.proofs.Common.{◌≡◌, ℕ, ℤ, ◌+◌, List, [], ◌∷◌, ◌++◌, length, take, refl, ap, ◌∙◌, append_assoc, arith}
+use Rattle.std.proofs.Common.{◌≡◌, ℕ, ℤ, ◌+◌, List, [], ◌∷◌, ◌++◌, length, refl, ap, ◌∙◌, append_assoc, arith}
 use Rattle.std.specs.List.{flat_map}
 use Rattle.mr_map.specs.Bytes.{Bytes}
 use Rattle.mr_resp.specs.Appends.{Extends}
 use Rattle.mr_resp.specs.Spelling.{number_line, bulk, array}
-use Rattle.mr_resp.proofs.AppendsLemmas.{Extends-trans, take_Extends}
+use Rattle.mr_resp.proofs.AppendsLemmas.{Extends-trans}
 use Rattle.mr_effect.specs.Parts.{head}
 use Rattle.mr_effect.specs.Spelling.{pair_words, score_words}
-
-pub take_front : (a b : List ℕ) → Extends a b → take (length a) b ≡ a
-take_front a b p = take_Extends a b p
 
 pub after : (a b c : List ℕ) → Extends a b → Extends b c → Extends a c
 after a b c p q = Extends-trans a b c p q

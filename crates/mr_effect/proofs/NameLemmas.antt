@@ -1,15 +1,11 @@
 -- Names and words.
-use Rattle.std.proofs.Common.{rules, ℕ, ◌≡◌, List, [], ◌∷◌, true, false, cond, Some, refl, sym, ◌∙◌, ap}
+use Rattle.std.proofs.Common.{◌≡◌, List, [], ◌∷◌, true, false, cond, Some, refl, sym, ◌∙◌, ap}
 use Rattle.std.specs.Prelude.{find}
-use Rattle.std.specs.Str.{bytes_eq}
-use Rattle.std.proofs.lemmas.Slice.Eq.{bytes_eq-Decides}
+use Rattle.mr_bytes.proofs.Numbers.{same_bytes}
 use Rattle.mr_map.specs.Bytes.{Bytes}
 use Rattle.mr_effect.specs.Names.{text_of, names, is_named, named}
 use Rattle.mr_effect.specs.declared.name.EffectName.{EffectName}
 use Rattle.mr_effect.specs.declared.name.EffectName.TheVariants as name
-
-pub same_bytes : (xs ys : List ℕ) → bytes_eq xs ys ≡ true → xs ≡ ys
-same_bytes xs ys h = search (rules, bytes_eq-Decides)
 
 -- each name is found, so all of them stand in the list, and no two are the same
 pub named_itself : (n : EffectName) → named (text_of n) ≡ Some n

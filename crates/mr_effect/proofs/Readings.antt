@@ -26,19 +26,12 @@ use Rattle.mr_bytes.specs.declared.ends.End.{End}
 use Rattle.mr_bytes.specs.declared.ends.End.TheVariants.{Left, Right}
 use Rattle.mr_bytes.specs.declared.ends.Side.{Side}
 use Rattle.mr_bytes.specs.declared.ends.Side.TheVariants.{Before, After}
-use Rattle.mr_bytes.proofs.Numbers.{number_of-signed_decimal, number_text}
+use Rattle.mr_bytes.proofs.Numbers.{number_of-signed_decimal, number_text, same_bytes}
+use Rattle.mr_bytes.proofs.Both.{first, second}
 use Rattle.mr_effect.proofs.Deadlines.{deadline_fits}
-use Rattle.mr_effect.proofs.NameLemmas.{same_bytes, named_itself, named_is}
+use Rattle.mr_effect.proofs.NameLemmas.{named_itself, named_is}
 
 -- ---- what is spelled is read
-
-first : (a b : Bool) → IsTrue (a && b) → IsTrue a
-first true b p = refl
-first false b p = cc
-
-second : (a b : Bool) → IsTrue (a && b) → IsTrue b
-second true b p = p
-second false b p = cc
 
 place_read : (i : ℤ) → IsTrue (is_place i) → place_of (signed_decimal i) ≡ Some i
 place_read i h = ap (option_and_then within) (number_of-signed_decimal i (first (is_i64 i) _ h)) ∙ ap (λ b. if b then Some i else None) h

@@ -1,5 +1,5 @@
 -- The texts of effects are apart.
-use Rattle.std.proofs.Common.{◌≡◌, ℕ, suc, ℤ, pos, negsuc, ◌<◌, ◌≤◌, ◌^◌, List, [], ◌∷◌, ◌++◌, length, Bool, true, false, ◌&&◌, IsTrue, refl, sym, ◌∙◌, append_assoc, arith}
+use Rattle.std.proofs.Common.{◌≡◌, ℕ, suc, ℤ, pos, negsuc, ◌<◌, ◌≤◌, ◌^◌, List, [], ◌∷◌, ◌++◌, length, ◌&&◌, IsTrue, refl, sym, ◌∙◌, append_assoc, arith}
 use Rattle.std.specs.List.{list_all, flat_map}
 use Rattle.std.specs.Fmt.{signed_decimal}
 use Rattle.std.specs.Prelude.{All}
@@ -26,6 +26,7 @@ use Rattle.mr_bytes.specs.declared.ends.End.{End}
 use Rattle.mr_bytes.specs.declared.ends.End.TheVariants.{Left, Right}
 use Rattle.mr_bytes.specs.declared.ends.Side.{Side}
 use Rattle.mr_bytes.specs.declared.ends.Side.TheVariants.{Before, After}
+use Rattle.mr_bytes.proofs.Both.{first, second}
 use Rattle.mr_effect.proofs.Deadlines.{deadline_fits}
 use Rattle.mr_effect.proofs.Readings.{one_effect}
 
@@ -55,14 +56,6 @@ array_unique ws vs x y few_ws few_vs s t e =
 
 short : (w : Bytes) → IsTrue (fits w) → length w ≤ word_limit
 short w h = omega (arith, leb-true _ _ h)
-
-first : (a b : Bool) → IsTrue (a && b) → IsTrue a
-first true b p = refl
-first false b p = cc
-
-second : (a b : Bool) → IsTrue (a && b) → IsTrue b
-second true b p = p
-second false b p = cc
 
 short_number : (n : ℤ) → IsTrue (is_i64 n) → length (signed_decimal n) ≤ word_limit
 short_number (pos n) h = let small : n < 2 ^ 63 = ltb-true _ _ h in omega (arith, (bounds n (omega arith)).1)

@@ -1,5 +1,5 @@
 -- The names of effects.
-use Rattle.std.specs.Prelude.{List, [], ◌∷◌, Bool, Option, find, codes}
+use Rattle.std.specs.Prelude.{List, [], ◌∷◌, Bool, true, false, Option, Some, None, find, codes}
 use Rattle.std.specs.Str.{bytes_eq}
 use Rattle.mr_map.specs.Bytes.{Bytes}
 use Rattle.mr_effect.specs.declared.name.EffectName.{EffectName}
@@ -44,3 +44,25 @@ is_named word n = bytes_eq (text_of n) word
 -- the name that a word is
 unfoldable pub named : Bytes → Option EffectName
 named word = find (is_named word) names
+
+-- the effects of this name hold lists: of words, of pairs, or of members with scores
+abbrev pub holds_lists : EffectName → Bool
+holds_lists name.MSet = true
+holds_lists name.HSet = true
+holds_lists name.HDel = true
+holds_lists name.LPush = true
+holds_lists name.RPush = true
+holds_lists name.SAdd = true
+holds_lists name.SRem = true
+holds_lists name.ZAdd = true
+holds_lists name.ZRem = true
+holds_lists _ = false
+
+abbrev pub some_holds_lists : Option EffectName → Bool
+some_holds_lists None = false
+some_holds_lists (Some n) = holds_lists n
+
+-- the first of these words is such a name
+abbrev pub names_lists : List Bytes → Bool
+names_lists [] = false
+names_lists (word ∷ ws) = some_holds_lists (named word)

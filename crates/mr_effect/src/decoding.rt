@@ -1,6 +1,7 @@
 // The effect that words spell.
-ghost use Rattle.std.specs.Prelude.{◌≡◌, map, IfOk};
+ghost use Rattle.std.specs.Prelude.{◌≡◌, map, IfOk, IsTrue, OnErr};
 ghost use Rattle.std.specs.Cow.{cow_slice_items};
+ghost use Rattle.mr_effect.specs.Names.{holds_lists, names_lists};
 ghost use Rattle.mr_effect.specs.Spelling.{Spells, FindsEach};
 ghost use Rattle.mr_effect.specs.Reading.{reading, effect_of};
 
@@ -18,7 +19,9 @@ fn read_as<'a>(
     name: EffectName,
     words: &'a [CowSlice<'_, u8>],
 ) -> Result<Option<Effect<'a>>, AllocError>
-    ensures { IfOk result (λ found. found ≡ reading name (map cow_slice_items words.now)) }
+    ensures found { IfOk result (λ found.
+        found ≡ reading name (map cow_slice_items words.now)) }
+    ensures refused { OnErr result (IsTrue (holds_lists name)) }
 {
     match name {
         EffectName::Set => Ok(reading::set_of(words)),
@@ -57,7 +60,8 @@ fn effect_of<'a>(
     alloc: Global,
     words: &'a [CowSlice<'_, u8>],
 ) -> Result<Option<Effect<'a>>, AllocError>
-    ensures { IfOk result (λ found. found ≡ effect_of (map cow_slice_items words.now)) }
+    ensures found { IfOk result (λ found. found ≡ effect_of (map cow_slice_items words.now)) }
+    ensures refused { OnErr result (IsTrue (names_lists (map cow_slice_items words.now))) }
 {
     let Some((word, arguments)) = words.split_first() else {
         return Ok(None);
@@ -68,13 +72,15 @@ fn effect_of<'a>(
     read_as(alloc, name, arguments)
 }
 
-/// The effect that these words spell, if one does. Its words are borrowed from them.
+/// The effect that these words spell, if one does. Its words are borrowed from them: only the lists that some effects hold take
+/// memory.
 pub fn decode<'a>(
     alloc: Global,
     words: &'a [CowSlice<'_, u8>],
 ) -> Result<Option<Effect<'a>>, AllocError>
     ensures found { IfOk result (λ found. Spells (map cow_slice_items words.now) found) }
     ensures each { IfOk result (λ found. FindsEach (map cow_slice_items words.now) found) }
+    ensures refused { OnErr result (IsTrue (names_lists (map cow_slice_items words.now))) }
 {
     let found = effect_of(alloc, words)?;
     Ok(found)

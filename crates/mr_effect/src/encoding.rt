@@ -420,7 +420,7 @@ fn push_effect(effect: &Effect<'_>, out: &mut Vec<u8>) -> Result<(), AllocError>
 }
 
 /// Appends the text of an effect. An `Err` changes nothing.
-#[tactic(auto, using(crate::proofs::Appending::take_front))]
+#[tactic(auto, using(mr_resp::proofs::AppendsLemmas::take_Extends))]
 pub fn encode(effect: &Effect<'_>, out: &mut Vec<u8>) -> Result<(), AllocError>
     ensures ok { OnOk result (out.new.items ≡ out.old.items ++ text effect.now) }
     ensures err { OnErr result (out.new.items ≡ out.old.items) }

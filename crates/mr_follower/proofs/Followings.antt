@@ -24,10 +24,10 @@ use Rattle.mr_follower.specs.Stream.{IsRefusedFront}
 use Rattle.mr_follower.proofs.Stepping.{stream_plain}
 use Rattle.mr_follower.proofs.Loadings.{then_some}
 
-asked_no : (p : Phase) → p ≡ phase.Stream → p ≡ phase.Psync → ⊥
+pub asked_no : (p : Phase) → p ≡ phase.Stream → p ≡ phase.Psync → ⊥
 asked_no p streams asked = let wrong : phase.Psync ≡ phase.Stream = sym asked ∙ streams in cc
 
-announced_no : (p : Phase) (id : List ℕ) (o : ℕ) → p ≡ phase.Stream → p ≡ phase.Snapshot id o → ⊥
+pub announced_no : (p : Phase) (id : List ℕ) (o : ℕ) → p ≡ phase.Stream → p ≡ phase.Snapshot id o → ⊥
 announced_no p id o streams announced = let wrong : phase.Snapshot id o ≡ phase.Stream = sym announced ∙ streams in cc
 
 -- in the stream a step waits, or applies a group

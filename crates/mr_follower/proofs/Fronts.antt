@@ -1,5 +1,5 @@
 -- The group at the front of the stream.
-use Rattle.std.proofs.Common.{◌≡◌, ℕ, ◌<◌, ◌≤◌, ◌^◌, ◌⊎◌, inl, inr, List, [], ◌∷◌, ◌++◌, length, take, drop, Option, Some, None, Result, Ok, Err, refl, sym, ap, ◌∙◌, subst, arith, append-nil, append_assoc, length-append, take_all, All, lit<}
+use Rattle.std.proofs.Common.{◌≡◌, ℕ, ◌<◌, ◌≤◌, ◌^◌, ◌⊎◌, inl, inr, List, [], ◌∷◌, ◌++◌, length, get_or, take, drop, Option, Some, None, Result, Ok, Err, refl, sym, ap, ◌∙◌, subst, arith, append-nil, append_assoc, length-append, take_all, All, lit<}
 use Rattle.std.specs.List.{AllByRecursion, flat_map}
 use Rattle.std.specs.Prelude.{codes}
 use Rattle.std.specs.Option.{option_and_then}
@@ -17,26 +17,29 @@ use Rattle.mr_resp.specs.declared.fault.Fault.{Fault}
 use Rattle.mr_resp.specs.declared.request.Scan.{Scan}
 use Rattle.mr_resp.specs.declared.request.Scan.TheVariants as scan
 use Rattle.mr_resp.specs.Usual.{commands, commands-words}
-use Rattle.mr_effect.specs.Spelling.{words}
+use Rattle.mr_effect.specs.Spelling.{words, IsSpelled, FindsEach}
 use Rattle.mr_effect.specs.declared.effect.Effect.{Effect}
 use Rattle.mr_keyspace.specs.Changes.{NeedsNoMemory}
 use Rattle.mr_keyspace.specs.Dataset.{Dataset}
 use Rattle.mr_data.specs.Meaning.{apply, apply_all}
 use Rattle.mr_groups.specs.Effects.{IsGoodEffect}
 use Rattle.mr_groups.specs.Steps.{RefusesWords}
-use Rattle.mr_groups.proofs.Commands.{words_are}
-use Rattle.mr_groups.specs.Groups.{IsGoodGroup, multi, group_text}
+use Rattle.mr_groups.specs.declared.trying.Tried.TheVariants as tried
+use Rattle.mr_groups.proofs.Commands.{words_are, words_tried}
+use Rattle.mr_groups.specs.Groups.{IsGroup, IsGoodGroup, multi, group_text}
 use Rattle.mr_groups.specs.Parts.{multi_words}
 use Rattle.mr_groups.specs.Folding.{IsRefused, IsTorn}
 use Rattle.mr_groups.specs.Reading.{IsFirstGroup, BeginsWithGroup, IsOpen, IsBad, ReadsGroup}
 use Rattle.mr_groups.specs.declared.reading.Next.{Next}
 use Rattle.mr_groups.specs.declared.reading.Next.TheVariants as next
-use Rattle.mr_groups.proofs.Apart.{one_group, multi_command}
+use Rattle.mr_groups.proofs.Apart.{no_empty, one_group, multi_command}
 use Rattle.mr_groups.proofs.Cuts.{begins, open_is_not_bad, bad_for_good}
 use Rattle.mr_groups.proofs.Lone.{IsLone, IsOne, lone_group, lone_not_open}
-use Rattle.mr_groups.proofs.Openings.{IsWhole, first_command, multi_text, open_start, doomed_start}
+use Rattle.mr_groups.proofs.Openings.{multi_text, open_start, doomed_start}
 use Rattle.mr_groups.proofs.Runs.{some_text}
-use Rattle.mr_follower.specs.Stream.{HasCommand, IsStuckWithin, IsRefusedFront, AppliesText, AppliesEffects, AppliesFront, AppliesSingle, WaitsWithin, HasFront}
+use Rattle.mr_groups.proofs.Going.{refused_undefined}
+use Rattle.mr_follower.specs.Stream.{HasCommand, HasFrame, LacksAt, IsStuckWithin, IsRefusedFront, AppliesEffect, AppliesText, AppliesWords, AppliesEffects, AppliesFront, AppliesSingle, WaitsWithin, HasFront, lack_of}
+use Rattle.mr_follower.specs.Stream.MayLackFor.{can, framed}
 use Rattle.mr_follower.specs.declared.single.Single.{Single}
 use Rattle.mr_follower.specs.declared.single.Single.TheVariants as single
 use Rattle.mr_follower.specs.declared.heard.FollowFault.{FollowFault}
@@ -119,10 +122,6 @@ long_refused u room m opened long = record {
     too_long g more behind good few q =
         let r = split_longer (take room u) (drop room u ++ more) (group_text g) behind (joined u more room ∙ q) (omega (arith, few, full u room long)) in
         opened.none (record { group = g; good = good; behind = r.0; is = r.1.0 })
-
-refused_undefined : (es : List Effect) (m : Dataset) → IsRefused es m → apply_all es m ≡ None
-refused_undefined [] m h = absurd h
-refused_undefined (e ∷ es) m h = ap (option_and_then (apply_all es)) h
 
 -- a group that isn't applied as a whole
 pub group_refused : (u : List ℕ) (room used : ℕ) (m : Dataset) (es : List Effect) → IsFirstGroup (take room u) es used → IsRefused es m → IsRefusedFront room m u
@@ -231,8 +230,12 @@ first_of u room used es first =
 first_within : (u : List ℕ) (room used : ℕ) (es : List Effect) → IsFirstGroup (take room u) es used → used ≤ room
 first_within u room used es first = let cut = few_taken room u in omega (arith, first.within, cut.0)
 
+-- whether a frame's effects can be applied isn't known before they are read
+pub frame_lacks : (u : List ℕ) (room : ℕ) (m : Dataset) → HasFrame u room → LacksAt u room m
+frame_lacks u room m frame = record { at = frame.at; cause = framed frame.begins }
+
 -- a whole group stands in front, which is applied or isn't
-pub effects_in_front : (u : List ℕ) (room used : ℕ) (es : List Effect) (m n : Dataset) (r : Result (Option ℕ) FollowFault) (before after : List ℕ) → HasCommand u room → IsFirstGroup (take room u) es used
+pub effects_in_front : (u : List ℕ) (room used : ℕ) (es : List Effect) (m n : Dataset) (r : Result (Option ℕ) FollowFault) (before after : List ℕ) → HasFrame u room → IsFirstGroup (take room u) es used
     → AppliesEffects (take used u) es m r n before after → AppliesFront u room m r n before after
 effects_in_front u room used es m n (Ok None) before after some first h = absurd h
 effects_in_front u room used es m n (Ok (Some k)) before after some first h =
@@ -244,7 +247,7 @@ effects_in_front u room used es m n (Ok (Some k)) before after some first h =
 effects_in_front u room used es m n (Err fault.BadLine) before after some first h = absurd h
 effects_in_front u room used es m n (Err fault.Refused) before after some first h = absurd h
 effects_in_front u room used es m n (Err fault.Undecodable) before after some first h = (group_refused u room used m es first h.0, h.1)
-effects_in_front u room used es m n (Err fault.Memory) before after some first h = (some, h)
+effects_in_front u room used es m n (Err fault.Memory) before after some first h = (frame_lacks u room m some, h.1)
 effects_in_front u room used es m n (Err fault.Spent) before after some first h =
     (record { used = used; group = es; first = first_of u room used es first; within = first_within u room used es first; begun = h.0.0; heavy = h.0.1.0; emptied = h.0.1.1 }, h.1)
 effects_in_front u room used es m n (Err fault.Torn) before after some first h =
@@ -270,6 +273,10 @@ alone u used room ws e m n inside c applied same =
       is_text = sym (text_of_words e ws (take used (take room u)) c same);
     }
 
+-- the command text with these words
+abbrev command_at : (u : List ℕ) (used room : ℕ) (ws : List (List ℕ)) → used ≤ length (take room u) → IsCommand commands (take used (take room u)) ws → HasCommand u room
+command_at u used room ws inside c = loadings.lacks u room (record { words = ws; used = used; inside = inside; command = c })
+
 -- a whole command text stands in front that begins no frame, whose words are applied or aren't
 pub text_in_front : (u : List ℕ) (used room : ℕ) (ws : List (List ℕ)) (m n : Dataset) (r : Result (Option ℕ) FollowFault) (before after : List ℕ) → used ≤ length (take room u) → used < 2 ^ 64
     → IsCommand commands (take used (take room u)) ws → IsLone ws → AppliesText (take used (take room u)) ws m r n before after → AppliesFront u room m r n before after
@@ -291,7 +298,7 @@ text_in_front u used room ws m n (Ok (Some k)) before after inside small c lone 
 text_in_front u used room ws m n (Err fault.BadLine) before after inside small c lone h = absurd h
 text_in_front u used room ws m n (Err fault.Refused) before after inside small c lone h = absurd h
 text_in_front u used room ws m n (Err fault.Undecodable) before after inside small c lone h = (words_refused u used room ws m inside small c lone h.0, h.1)
-text_in_front u used room ws m n (Err fault.Memory) before after inside small c lone h = (loadings.lacks u room (record { words = ws; used = used; inside = inside; command = c }), h)
+text_in_front u used room ws m n (Err fault.Memory) before after inside small c lone h = (record { at = command_at u used room ws inside c; cause = h.0 }, h.1)
 text_in_front u used room ws m n (Err fault.Spent) before after inside small c lone h =
     let s = h.0 in let d = s.does in
     let first = alone u used room ws d.effect m s.can inside c d.applied d.spelled.1 in (
@@ -308,16 +315,46 @@ text_in_front u used room ws m n (Err fault.Spent) before after inside small c l
     )
 text_in_front u used room ws m n (Err fault.Torn) before after inside small c lone h = absurd h
 
--- a group's text begins with a command text
-pub first_begins : (u : List ℕ) (room used : ℕ) (es : List Effect) → IsFirstGroup (take room u) es used → HasCommand u room
-first_begins u room used es first = by_command (first_command (take room u) (begins (take room u) es used first))
+-- .. or that begins one
+pub words_in_front : (u : List ℕ) (used room : ℕ) (ws : List (List ℕ)) (m n : Dataset) (s : Single) (before after : List ℕ) → used ≤ length (take room u) → used < 2 ^ 64
+    → IsCommand commands (take used (take room u)) ws → AppliesWords (take used (take room u)) ws m s n before after → AppliesSingle u room m s n before after
+words_in_front u used room ws m n (single.Told result) before after inside small c h = text_in_front u used room ws m n result before after inside small c h.0 h.1
+words_in_front u used room ws m n single.Open before after inside small c h = absurd h
+words_in_front u used room ws m n single.Framed before after inside small c h = (record { at = command_at u used room ws inside c; begins = h.0 }, h.1)
+
+-- ---- what is told
+
+-- where memory is lacking before an effect
+pub effect_lacks : (front : List ℕ) (e : Effect) (m : Dataset) (f : FollowFault) (out : List ℕ) → f ≡ lack_of (apply e m) → AppliesEffect front e m (Err f) m out out
+effect_lacks front e m f out is = subst (λ (x : FollowFault). AppliesEffect front e m (Err x) m out out) (sym is) (by (apply e m) refl)
   where
-    by_command : (t : List ℕ) × (z : List ℕ) × IsWhole t × (take room u ≡ t ++ z) → HasCommand u room
-    by_command (t, z, whole, is) = record {
-      words = whole.0;
-      front = t;
-      behind = z ++ drop room u;
-      is = sym (take-append-drop room u) ∙ (ap (λ (l : List ℕ). l ++ drop room u) is ∙ append_assoc t z (drop room u));
-      within = (let cut = few_taken room u in omega (arith, cut.0, ap length is, length-append t z));
-      command = whole.1;
-    }
+    by : (o : Option Dataset) → o ≡ apply e m → AppliesEffect front e m (Err (lack_of o)) m out out
+    by None at = (sym at, (refl, refl))
+    by (Some n) at = (not_none e m n (sym at), (refl, refl))
+
+-- .. before a group
+pub group_lacks : (front : List ℕ) (es : List Effect) (m : Dataset) (e : Effect) (f : FollowFault) (out : List ℕ) → IsGroup es → e ≡ get_or es 0 e → f ≡ lack_of (apply e m) → AppliesEffects front es m (Err f) m out out
+group_lacks front [] m e f out group at is = no_empty group
+group_lacks front (x ∷ es) m e f out group at is = subst (λ (y : FollowFault). AppliesEffects front (x ∷ es) m (Err y) m out out) (sym is) (by (apply e m) (ap (λ y. apply y m) at))
+  where
+    by : (o : Option Dataset) → o ≡ apply x m → AppliesEffects front (x ∷ es) m (Err (lack_of o)) m out out
+    by None none = (sym none, (refl, refl))
+    by (Some n) some = (not_none x m n (sym some), (refl, refl))
+
+some_made : (o : Option Dataset) → (o ≡ None → ⊥) → (n : Dataset) × (o ≡ Some n)
+some_made None some = absurd (some refl)
+some_made (Some n) some = (n, refl)
+
+-- the effect with these words was applied or wasn't
+pub effect_of_words : (front : List ℕ) (ws : List (List ℕ)) (e : Effect) (m n : Dataset) (r : Result (Option ℕ) FollowFault) (before after : List ℕ) → IsSpelled ws e → FindsEach ws (Some e) → AppliesEffect front e m r n before after
+    → AppliesText front ws m r n before after
+effect_of_words front ws e m n (Ok None) before after spelled each h = absurd h
+effect_of_words front ws e m n (Ok (Some k)) before after spelled each h = (h.0, (record { effect = e; spelled = spelled; applied = h.1.0 }, h.1.1))
+effect_of_words front ws e m n (Err fault.BadLine) before after spelled each h = absurd h
+effect_of_words front ws e m n (Err fault.Refused) before after spelled each h = absurd h
+effect_of_words front ws e m n (Err fault.Undecodable) before after spelled each h = ((words_tried e ws m m tried.Refused (refl, h.0) spelled each).1, h.1)
+effect_of_words front ws e m n (Err fault.Memory) before after spelled each h =
+    let made = some_made (apply e m) h.0 in
+    (can (made.0, record { effect = e; spelled = spelled; applied = made.1 }), h.1)
+effect_of_words front ws e m n (Err fault.Spent) before after spelled each h = (words_tried e ws m n tried.Spent h.0 spelled each, h.1)
+effect_of_words front ws e m n (Err fault.Torn) before after spelled each h = absurd h

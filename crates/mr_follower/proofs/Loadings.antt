@@ -242,7 +242,7 @@ gone_on t unread used made h there ended fits r all few end some =
     some_left other = let few = r.within in let cut = (few_taken (t.size - t.done) unread).0 in omega (arith, other, few, cut, fits)
 
 -- ---- the front of the stream
-pub lacks : (u : List ℕ) (room : ℕ) → BeginsWithCommand commands (take room u) → HasCommand u room
+abbrev pub lacks : (u : List ℕ) (room : ℕ) → BeginsWithCommand commands (take room u) → HasCommand u room
 lacks u room h =
     let parts = within_parts u room h.used h.inside in record {
       words = h.words;

@@ -177,17 +177,17 @@ greet_fault a f g h out = aside a (Err f) a out out (greeting_only a g) (status_
 pub greet_idle : (a : FollowState) → IsGreeting a.phase → Continues IsLineText a.kept → (out : List ℕ) → StepsAside a (Ok heard.Idle) a out out
 greet_idle a g h out = aside a (Ok heard.Idle) a out out (greeting_only a g) (λ ag m o. stays a m o (Ok heard.Idle) out (greeting_waits a.phase a.kept g h a.kept, still a a.kept m ag))
 
-greeting_lacks : (p : Phase) (u : List ℕ) (offset : ℕ) → IsGreeting p → HasStatus u → (kept : List ℕ) → MayLack p offset u kept
-greeting_lacks phase.Ping u offset g h kept = h
-greeting_lacks phase.Port u offset g h kept = h
-greeting_lacks phase.Capabilities u offset g h kept = h
-greeting_lacks phase.Psync u offset g h kept = absurd g
-greeting_lacks (phase.Snapshot id o) u offset g h kept = absurd g
-greeting_lacks phase.Stream u offset g h kept = absurd g
+greeting_lacks : (p : Phase) (u : List ℕ) (offset : ℕ) (m : Dataset) → IsGreeting p → HasStatus u → (kept : List ℕ) → MayLack p offset u kept m
+greeting_lacks phase.Ping u offset m g h kept = h
+greeting_lacks phase.Port u offset m g h kept = h
+greeting_lacks phase.Capabilities u offset m g h kept = h
+greeting_lacks phase.Psync u offset m g h kept = absurd g
+greeting_lacks (phase.Snapshot id o) u offset m g h kept = absurd g
+greeting_lacks phase.Stream u offset m g h kept = absurd g
 
 pub no_memory : (a : FollowState) (used : ℕ) (text before after : List ℕ) → IsGreeting a.phase → IsFront a.kept used (status text) → after ≡ before → StepsAside a (Err fault.Memory) a before after
 no_memory a used text before after g h same = aside a (Err fault.Memory) a before after (greeting_only a g)
-    (λ ag m o. record { told = []; put = same ∙ sym (append-nil before); row = (greeting_lacks a.phase a.kept o g (used, (text, h)) a.kept, still a a.kept m ag) })
+    (λ ag m o. record { told = []; put = same ∙ sym (append-nil before); row = (greeting_lacks a.phase a.kept o m g (used, (text, h)) a.kept, still a a.kept m ag) })
 
 pub greet_said : (a b : FollowState) (used : ℕ) (text before after : List ℕ) → IsGreeting a.phase → IsFront a.kept used (status text) → after ≡ before ++ line_after a.phase a.port a.offer
     → b ≡ record a { phase = next_of a.phase; taking = None; kept = drop used a.kept } → StepsAside a (Ok heard.Say) b before after
@@ -468,7 +468,7 @@ load_lacks a b t s kept id o used announced takes g is out u m offset ag =
     let left : b.kept ≡ drop used kept = ap (λ (f : FollowState). f.kept) is in
     let at = amid t s kept u used pause.Lack g h in
     silent a u m offset (Err fault.Memory) b out (
-      subst (λ (p : Phase). MayLack p offset u b.kept) (sym announced)
+      subst (λ (p : Phase). MayLack p offset u b.kept m) (sym announced)
           (subst (λ (l : List ℕ). LacksWithin u l) (sym left) (g.made, (s.size - s.done, (at, inl g.pauses.1)))),
       put_on a b s (drop used kept) u m id o announced is (taken_on t s kept u used pause.Lack g g.pauses.0 h),
     )
@@ -540,7 +540,7 @@ load_whole a d b t s kept id o used (Err fault.Memory) before after announced ta
       told = [];
       put = h.1 ∙ sym (append-nil before);
       row = (
-        subst (λ (p : Phase). MayLack p offset u b.kept) (sym announced) (subst (λ (l : List ℕ). LacksWithin u l) (sym left) (g.made, (s.size - s.done, (at, inr g.pauses.1)))),
+        subst (λ (p : Phase). MayLack p offset u b.kept m) (sym announced) (subst (λ (l : List ℕ). LacksWithin u l) (sym left) (g.made, (s.size - s.done, (at, inr g.pauses.1)))),
         put_on a b s (drop used kept) u m id o announced state (taken_on t s kept u used pause.Whole g g.pauses.0 taken),
       );
     }
@@ -589,7 +589,7 @@ follow_fails a m n offset room fault.Undecodable before after streams all h ag =
 follow_fails a m n offset room fault.Memory before after streams all h ag = record {
   told = [];
   put = h.1.1 ∙ sym (append-nil before);
-  row = (subst (λ (p : Phase). MayLack p offset a.kept a.kept) (sym streams) (room, (all, h.0)), kept_still a m n ag h.1.0);
+  row = (subst (λ (p : Phase). MayLack p offset a.kept a.kept m) (sym streams) (room, (all, h.0)), kept_still a m n ag h.1.0);
 }
 follow_fails a m n offset room fault.Spent before after streams all h ag =
     let s = h.0 in

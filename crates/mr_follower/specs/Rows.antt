@@ -23,7 +23,7 @@ use Rattle.mr_groups.specs.Folding as folding
 use Rattle.mr_follower.specs.Handshake.{IsGreeting, next_of, line_after}
 use Rattle.mr_follower.specs.Lines.{Begins, IsNoLine, IsShortOf, HasStatus}
 use Rattle.mr_follower.specs.Loading.{HasCommandWithin, HasEffectWithin}
-use Rattle.mr_follower.specs.Stream.{HasCommand, IsRefusedFront}
+use Rattle.mr_follower.specs.Stream.{IsRefusedFront, LacksAt}
 use Rattle.mr_follower.specs.State.{FollowState, Agrees, Moves}
 use Rattle.mr_follower.specs.declared.phase.Phase.{Phase}
 use Rattle.mr_follower.specs.declared.phase.Phase.TheVariants as phase
@@ -152,19 +152,19 @@ pub record IsAmid (u : List ℕ) (m : Dataset) (left : ℕ) (rest : List ℕ) : 
 abbrev pub LacksWithin : List ℕ → List ℕ → Type 0
 LacksWithin u kept = (m : Dataset) × ((left : ℕ) × (IsAmid u m left kept × (HasCommandWithin left kept ⊎ (left ≡ 0))))
 
--- a command text begins the stream that leads up to the offset limit at most
-abbrev pub LacksBelow : ℕ → List ℕ → Type 0
-LacksBelow offset u = (room : ℕ) × ((offset + room ≡ offset_limit) × HasCommand u room)
+-- A command text begins the stream that leads up to the offset limit at most: an effect's that can be applied, or it isn't known.
+abbrev pub LacksBelow : ℕ → List ℕ → Dataset → Type 0
+LacksBelow offset u m = (room : ℕ) × ((offset + room ≡ offset_limit) × LacksAt u room m)
 
 -- where memory can be lacking: behind an answer to a line of the handshake, for a command text in a snapshot that is the next to
 -- be done, for the commands that rebuild a whole one, and for a command text of the stream
-abbrev pub MayLack : Phase → ℕ → List ℕ → List ℕ → Type 0
-MayLack phase.Ping offset u kept = HasStatus u
-MayLack phase.Port offset u kept = HasStatus u
-MayLack phase.Capabilities offset u kept = HasStatus u
-MayLack phase.Psync offset u kept = ⊥
-MayLack (phase.Snapshot id o) offset u kept = LacksWithin u kept
-MayLack phase.Stream offset u kept = LacksBelow offset u
+abbrev pub MayLack : Phase → ℕ → List ℕ → List ℕ → Dataset → Type 0
+MayLack phase.Ping offset u kept m = HasStatus u
+MayLack phase.Port offset u kept m = HasStatus u
+MayLack phase.Capabilities offset u kept m = HasStatus u
+MayLack phase.Psync offset u kept m = ⊥
+MayLack (phase.Snapshot id o) offset u kept m = LacksWithin u kept
+MayLack phase.Stream offset u kept m = LacksBelow offset u m
 
 -- a group's text begins the stream that leads up to the offset limit at most, and it isn't used
 pub record BeginsGroup (a : FollowState) (u : List ℕ) (offset : ℕ) (b : FollowState) : Type 0 where
@@ -235,7 +235,7 @@ FollowRow a u m offset (Ok heard.Applied) b n told = Follows a u m offset b n to
 FollowRow a u m offset (Err fault.BadLine) b n told = IsBadLine a u × Stays a u m b n told
 FollowRow a u m offset (Err fault.Refused) b n told = IsRefused a u × Stays a u m b n told
 FollowRow a u m offset (Err fault.Undecodable) b n told = (IsBadSnapshot a u ⊎ IsBadStream a u m offset) × Stays a u m b n told
-FollowRow a u m offset (Err fault.Memory) b n told = MayLack a.phase offset u b.kept × Stays a u m b n told
+FollowRow a u m offset (Err fault.Memory) b n told = MayLack a.phase offset u b.kept m × Stays a u m b n told
 FollowRow a u m offset (Err fault.Spent) b n told = Spends a u m offset b n told
 FollowRow a u m offset (Err fault.Torn) b n told = Tears a u m offset b n told
 

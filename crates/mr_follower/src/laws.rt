@@ -1,6 +1,7 @@
 //! The law of following, over the definitions that the contracts cite. The calls do nothing.
 ghost use Rattle.mr_follower.specs.Following.{FollowsTheStream, StreamIsTaken, SnapshotIsTaken, SnapshotIsHandedOver};
 ghost use Rattle.mr_follower.specs.State.{FedIsUnread};
+ghost use Rattle.mr_follower.specs.Stream.{MoreIsWantedInFrames};
 
 /// What is fed comes behind the unread bytes.
 pub fn fed_bytes_are_unread()
@@ -24,4 +25,9 @@ pub fn stream_is_taken()
 pub fn snapshot_is_taken()
     ensures taken { SnapshotIsTaken }
     ensures whole { SnapshotIsHandedOver }
+{}
+
+/// Where memory can be lacking in the stream, more bytes are wanted within a frame alone.
+pub fn more_is_wanted_in_frames()
+    ensures { MoreIsWantedInFrames }
 {}

@@ -14,5 +14,8 @@ mod taking;
 
 pub use follower::Follower;
 pub use heard::{FollowFault, Heard};
-pub use laws::{fed_bytes_are_unread, follows_the_stream, snapshot_is_taken, stream_is_taken};
+pub use laws::{
+    fed_bytes_are_unread, follows_the_stream, more_is_wanted_in_frames, snapshot_is_taken,
+    stream_is_taken,
+};
 pub use phase::Phase;

@@ -1,11 +1,11 @@
 // The group at the front of the stream.
 ghost use Rattle.std.specs.Prelude.{◌≡◌};
 ghost use Rattle.mr_groups.specs.Groups.{IsGroup};
-ghost use Rattle.mr_follower.specs.Stream.{AppliesEffects, AppliesFront, WaitsWithin, told_as};
+ghost use Rattle.mr_follower.specs.Stream.{AppliesEffects, AppliesFront, HasFrame, WaitsWithin, told_as};
 
 use crate::FollowFault;
 use crate::inbox::Inbox;
-use crate::single::Single;
+use crate::single::{Single, lack_of};
 use mr_data::{Dataset, Effect};
 use mr_groups::{GroupFault, Next, apply_group_owned};
 use std::alloc::Global;
@@ -34,7 +34,7 @@ fn apply_effects(
 {
     let before = out.len();
     if out.extend_from_slice(text).is_err() {
-        return Err(FollowFault::Memory);
+        return Err(lack_of(held, &effects[0]));
     }
     match apply_group_owned(held, effects) {
         Ok(()) => Ok(Some(text.len())),
@@ -45,7 +45,7 @@ fn apply_effects(
     }
 }
 
-/// Applies the group in a frame at the front of the stream, as `apply_front` does.
+/// Applies the group in the frame that begins the stream, as `apply_front` does.
 fn apply_framed(
     alloc: Global,
     inbox: &mut Inbox,
@@ -53,6 +53,7 @@ fn apply_framed(
     held: &mut Dataset,
     out: &mut Vec<u8>,
 ) -> Result<Option<usize>, FollowFault>
+    requires { HasFrame inbox.old room }
     ensures applied { AppliesFront inbox.old room held.old result held.new out.old.items
         out.new.items }
     ensures kept { inbox.new ≡ inbox.old }

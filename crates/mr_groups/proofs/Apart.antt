@@ -1,5 +1,5 @@
 -- The texts of groups are apart.
-use Rattle.std.proofs.Common.{◌≡◌, ℕ, ◌<◌, ◌≤◌, ◌^◌, List, [], ◌∷◌, ◌++◌, length, Bool, true, false, ◌&&◌, ◌||◌, IsTrue, lit<, refl, sym, ap, ◌∙◌, append_assoc, arith, All}
+use Rattle.std.proofs.Common.{◌≡◌, ℕ, ◌<◌, ◌≤◌, ◌^◌, List, [], ◌∷◌, ◌++◌, length, Bool, true, false, ◌||◌, lit<, refl, sym, ap, ◌∙◌, append_assoc, arith, All}
 use Rattle.std.specs.Prelude.{codes}
 use Rattle.std.specs.List.{flat_map}
 use Rattle.std.specs.Str.{bytes_eq}
@@ -23,14 +23,6 @@ use Rattle.mr_groups.specs.Effects.{IsGoodEffect}
 use Rattle.mr_groups.proofs.Leading.{one_effect}
 use Rattle.mr_groups.specs.Groups.{IsGroup, IsGoodGroup, multi, exec, group_text}
 use Rattle.mr_groups.specs.Parts.{multi_words, exec_words}
-
-pub first : (a b : Bool) → IsTrue (a && b) → IsTrue a
-first true b h = refl
-first false b h = cc
-
-pub second : (a b : Bool) → IsTrue (a && b) → IsTrue b
-second true b h = h
-second false b h = cc
 
 -- ---- the texts of a frame are command texts
 

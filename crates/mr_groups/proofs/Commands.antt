@@ -52,12 +52,12 @@ array_same ws vs few_ws few_vs small e =
 
 -- ---- what an effect that can be applied is
 
-if_some : {A : Type 0} (b c : Bool) (o : Option A) (n : A) → cond (b && c) o None ≡ Some n → IsTrue b × IsTrue c
+pub if_some : {A : Type 0} (b c : Bool) (o : Option A) (n : A) → cond (b && c) o None ≡ Some n → IsTrue b × IsTrue c
 if_some true true o n h = (refl, refl)
 if_some true false o n h = absurd (cc)
 if_some false c o n h = absurd (cc)
 
-applied_fits : (e : Effect) (m n : Dataset) → apply e m ≡ Some n → IsTrue (has_spelling e) × IsTrue (words_fit e)
+pub applied_fits : (e : Effect) (m n : Dataset) → apply e m ≡ Some n → IsTrue (has_spelling e) × IsTrue (words_fit e)
 unfolding apply
 applied_fits e m n h = if_some (has_spelling e) (words_fit e) (change e m) n h
 

@@ -4,6 +4,7 @@ use Rattle.std.specs.List.{AllByRecursion}
 use Rattle.std.specs.FinMap.{empty}
 use Rattle.std.proofs.lemmas.List.{take_more, take-append-drop}
 use Rattle.std.proofs.Common.{drop-cons}
+use Rattle.std.proofs.lemmas.Option.{same_Some}
 use Rattle.mr_effect.specs.declared.effect.Effect.{Effect}
 use Rattle.mr_keyspace.specs.Changes.{NeedsNoMemory}
 use Rattle.mr_keyspace.specs.Dataset.{Dataset}
@@ -13,16 +14,16 @@ use Rattle.mr_data.specs.Meaning.{apply, apply_all}
 use Rattle.mr_data.proofs.Folding.{apply_all_more}
 use Rattle.mr_groups.specs.Folding.{IsRefused, AppliesGroup, fault_of}
 use Rattle.mr_groups.specs.declared.applying.GroupFault.{GroupFault}
-use Rattle.mr_groups.proofs.Runs.{some_is, first_done}
+use Rattle.mr_groups.proofs.Runs.{first_done}
 
 refused_first : (before behind es : List Effect) (e : Effect) (m mid : Dataset) → before ++ (e ∷ behind) ≡ es → apply_all before m ≡ Some mid → before ≡ [] → apply e mid ≡ None → IsRefused es m
 refused_first before behind es e m mid each begun none undefined =
     let whole : e ∷ behind ≡ es = ap (λ (xs : List Effect). xs ++ (e ∷ behind)) (sym none) ∙ each in
-    let same : m ≡ mid = some_is m mid (ap (λ (xs : List Effect). apply_all xs m) (sym none) ∙ begun) in
+    let same : m ≡ mid = same_Some m mid (ap (λ (xs : List Effect). apply_all xs m) (sym none) ∙ begun) in
     subst (λ (xs : List Effect). IsRefused xs m) whole (subst (λ x. apply e x ≡ None) (sym same) undefined)
 
 not_refused : (before behind es : List Effect) (e : Effect) (m mid : Dataset) → before ++ (e ∷ behind) ≡ es → apply_all before m ≡ Some mid → (apply e mid ≡ None → ⊥) → IsRefused es m → ⊥
-not_refused [] behind es e m mid each begun can refused = can (subst (λ x. apply e x ≡ None) (some_is m mid begun) (subst (λ (xs : List Effect). IsRefused xs m) (sym each) refused))
+not_refused [] behind es e m mid each begun can refused = can (subst (λ x. apply e x ≡ None) (same_Some m mid begun) (subst (λ (xs : List Effect). IsRefused xs m) (sym each) refused))
 not_refused (b ∷ bs) behind es e m mid each begun can refused =
     let one = first_done (apply_all bs) (apply b m) mid begun in
     let none : apply b m ≡ None = subst (λ (xs : List Effect). IsRefused xs m) (sym each) refused in
@@ -61,7 +62,7 @@ stops_at before behind es e m mid new is_first undone.Memory r o each begun none
     )
 stops_at before behind es e m mid new true undone.Refused r o each begun none some is refused kept emptied light told =
     let undefined : apply e mid ≡ None = refused.0 is in
-    let same : m ≡ mid = some_is m mid (ap (λ (xs : List Effect). apply_all xs m) (sym (none refl)) ∙ begun) in
+    let same : m ≡ mid = same_Some m mid (ap (λ (xs : List Effect). apply_all xs m) (sym (none refl)) ∙ begun) in
     subst (λ x. AppliesGroup es m (Err x) new) (sym told) (refused_first before behind es e m mid each begun (none refl) undefined, kept is ∙ sym same)
 stops_at before behind es e m mid new false undone.Refused r o each begun none some is refused kept emptied light told =
     subst (λ x. AppliesGroup es m (Err x) new) (sym told) (record {

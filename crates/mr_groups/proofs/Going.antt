@@ -5,6 +5,7 @@ use Rattle.std.specs.FinMap.{empty}
 use Rattle.std.specs.declared.alloc.AllocError.{AllocError}
 use Rattle.std.proofs.lemmas.List.{append-nil, drop-drop, length-append, length-drop, length-take-le, take-append-drop, take_all}
 use Rattle.std.proofs.lemmas.List.Elements.{All-append, All-head, All-tail}
+use Rattle.std.proofs.lemmas.Option.{same_Some}
 use Rattle.mr_effect.specs.declared.effect.Effect.{Effect}
 use Rattle.mr_keyspace.specs.Dataset.{Dataset}
 use Rattle.mr_data.specs.Meaning.{apply_all}
@@ -28,12 +29,12 @@ use Rattle.mr_groups.proofs.Apart.{one_group}
 use Rattle.mr_groups.proofs.Cuts.{begins, bad_for_good}
 use Rattle.mr_groups.proofs.Openings.{open_start}
 use Rattle.mr_groups.proofs.Marks.{note_no_group}
-use Rattle.mr_groups.proofs.Runs.{some_is, first_done, some_text, items_behind, stuck_where_none, stuck_where_open, leads_nowhere, leads_on, by_items, note_leads, some_item, read_is_longest}
+use Rattle.mr_groups.proofs.Runs.{first_done, some_text, items_behind, stuck_where_none, stuck_where_open, leads_nowhere, leads_on, by_items, note_leads, some_item, read_is_longest}
 use Rattle.mr_groups.proofs.Singles.{leads_by_singles}
 
 -- ---- a group that isn't done as a whole
 
-refused_undefined : (es : List Effect) (m : Dataset) → IsRefused es m → apply_all es m ≡ None
+pub refused_undefined : (es : List Effect) (m : Dataset) → IsRefused es m → apply_all es m ≡ None
 refused_undefined [] m h = absurd h
 refused_undefined (e ∷ es) m h = ap (option_and_then (apply_all es)) h
 
@@ -137,7 +138,7 @@ groups_join [] hs = refl
 groups_join (g ∷ gs) hs = ap (λ (t : List ℕ). group_text g ++ t) (groups_join gs hs) ∙ sym (append_assoc (group_text g) (group_texts gs) (group_texts hs))
 
 pub both_applied : (gs hs : List (List Effect)) (old mid new : Dataset) → apply_groups gs old ≡ Some mid → apply_groups hs mid ≡ Some new → apply_groups (gs ++ hs) old ≡ Some new
-both_applied [] hs old mid new p q = subst (λ m. apply_groups hs m ≡ Some new) (sym (some_is old mid p)) q
+both_applied [] hs old mid new p q = subst (λ m. apply_groups hs m ≡ Some new) (sym (same_Some old mid p)) q
 both_applied (g ∷ gs) hs old mid new p q =
     let one = first_done (apply_groups gs) (apply_all g old) mid p in
     ap (option_and_then (apply_groups (gs ++ hs))) one.1 ∙ both_applied gs hs one.0 mid new one.2 q
@@ -311,11 +312,11 @@ leads_behind front rest old mid new one all =
     All-drop_front (i ∷ is) js all = All-drop_front is js (All-tail IsGoodItem i (is ++ js) all)
 
     then_behind : (gs hs : List (List Effect)) (from to last : Dataset) → apply_groups gs from ≡ Some to → apply_groups (gs ++ hs) from ≡ Some last → apply_groups hs to ≡ Some last
-    then_behind [] hs from to last p q = subst (λ m. apply_groups hs m ≡ Some last) (some_is from to p) q
+    then_behind [] hs from to last p q = subst (λ m. apply_groups hs m ≡ Some last) (same_Some from to p) q
     then_behind (g ∷ gs) hs from to last p q =
         let one = first_done (apply_groups gs) (apply_all g from) to p in
         let two = first_done (apply_groups (gs ++ hs)) (apply_all g from) last q in
-        let same : two.0 ≡ one.0 = some_is two.0 one.0 (sym two.1 ∙ one.1) in
+        let same : two.0 ≡ one.0 = same_Some two.0 one.0 (sym two.1 ∙ one.1) in
         then_behind gs hs one.0 to last one.2 (subst (λ m. apply_groups (gs ++ hs) m ≡ Some last) same two.2)
 
 pub leads_once : (bytes : List ℕ) (old m n : Dataset) → LeadsByItems bytes old m → LeadsByItems bytes old n → m ≡ n
@@ -324,7 +325,7 @@ leads_once bytes old m n a b =
     nowhere rest.items rest.good rest.are_texts rest.applied
   where
     nowhere : (is : List Item) → All IsGoodItem is → [] ≡ item_texts is → apply_groups (groups_of is) m ≡ Some n → m ≡ n
-    nowhere [] good none applied = some_is m n applied
+    nowhere [] good none applied = same_Some m n applied
     nowhere (i ∷ is) good none applied = absurd (omega (arith, some_item i (All-head IsGoodItem i is good), ap length none, length-append (item_text i) (item_texts is)))
 
 pub led_once : (bytes : List ℕ) (old m n : Dataset) → LeadsByGroups bytes old m → LeadsByGroups bytes old n → m ≡ n

@@ -2,6 +2,7 @@
 use Rattle.std.proofs.Common.{◌≡◌, ℕ, ◌<◌, ◌^◌, List, [], ◌∷◌, ◌++◌, length, Option, Some, None, refl, sym, ap, subst, ◌∙◌, append_assoc, append-nil, arith}
 use Rattle.std.specs.Option.{option_and_then}
 use Rattle.std.proofs.lemmas.List.Elements.{All-nil, All-append, All-cons}
+use Rattle.std.proofs.lemmas.Option.{same_Some}
 use Rattle.mr_resp.specs.Usual.{commands-words}
 use Rattle.mr_effect.specs.Spelling.{words, text, texts, IsShort}
 use Rattle.mr_effect.specs.declared.effect.Effect.{Effect}
@@ -10,10 +11,7 @@ use Rattle.mr_keyspace.specs.Dataset.{Dataset}
 use Rattle.mr_data.specs.Meaning.{apply, apply_all}
 use Rattle.mr_groups.specs.Effects.{IsGoodEffect, Leads}
 
-some_is : {A : Type 0} (x y : A) → Some x ≡ Some y → x ≡ y
-some_is x y e = cc
-
-few : (e : Effect) → IsShort e → length (words e) < 2 ^ 64
+pub few : (e : Effect) → IsShort e → length (words e) < 2 ^ 64
 few e s = omega (arith, s, commands-words)
 
 pub one_effect : (e f : Effect) (x y : List ℕ) → IsGoodEffect e → IsGoodEffect f → text e ++ x ≡ text f ++ y → (e ≡ f) × (x ≡ y)
@@ -34,7 +32,7 @@ texts_push (a ∷ es) e = ap (λ (t : List ℕ). text a ++ t) (texts_push es e) 
 
 applied_push : (es : List Effect) (e : Effect) (old mid new : Dataset) → apply_all es old ≡ Some mid → apply e mid ≡ Some new → apply_all (es ++ e ∷ []) old ≡ Some new
 applied_push [] e old mid new p q =
-    let here : apply e old ≡ Some new = subst (λ m. apply e m ≡ Some new) (sym (some_is old mid p)) q in
+    let here : apply e old ≡ Some new = subst (λ m. apply e m ≡ Some new) (sym (same_Some old mid p)) q in
     ap (option_and_then (apply_all [])) here
 applied_push (a ∷ es) e old mid new p q =
     let one = first_done (apply a old) es mid p in
@@ -51,7 +49,7 @@ leads_on bytes e old mid new led good applied = record {
 
 -- effects behind effects lead on
 both_applied : (es fs : List Effect) (old mid new : Dataset) → apply_all es old ≡ Some mid → apply_all fs mid ≡ Some new → apply_all (es ++ fs) old ≡ Some new
-both_applied [] fs old mid new p q = subst (λ m. apply_all fs m ≡ Some new) (sym (some_is old mid p)) q
+both_applied [] fs old mid new p q = subst (λ m. apply_all fs m ≡ Some new) (sym (same_Some old mid p)) q
 both_applied (a ∷ es) fs old mid new p q =
     let one = first_done (apply a old) es mid p in
     ap (option_and_then (apply_all (es ++ fs))) one.1 ∙ both_applied es fs one.0 mid new one.2 q

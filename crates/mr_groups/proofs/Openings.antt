@@ -4,6 +4,7 @@ use Rattle.std.specs.List.{list_all, concat}
 use Rattle.std.proofs.lemmas.List.{append_cancel_left, append-nil}
 use Rattle.std.proofs.lemmas.List.Elements.{All-nil, All-cons, All-head, All-tail, All-append}
 use Rattle.std.proofs.lemmas.List.Folds.{list_all-append, concat-append}
+use Rattle.mr_bytes.proofs.Both.{first, second}
 use Rattle.mr_inline.specs.Language.{Continues, IsDoomed}
 use Rattle.mr_resp.specs.Command.{IsCommandText}
 use Rattle.mr_resp.specs.Usual.{commands, commands-words}
@@ -16,7 +17,7 @@ use Rattle.mr_groups.proofs.Leading.{one_effect}
 use Rattle.mr_groups.specs.Groups.{can_join, is_group, IsGoodGroup, multi, exec, group_text, parts}
 use Rattle.mr_groups.specs.Parts.{HasOther, multi_words, exec_words}
 use Rattle.mr_groups.specs.Reading.{BeginsWithGroup, IsCut, BeginGroup, IsOpen, IsBad}
-use Rattle.mr_groups.proofs.Apart.{first, second, heads, tails, no_empty, multi_command, exec_command, effect_command, no_multi, no_exec, multi_no_exec, regroup}
+use Rattle.mr_groups.proofs.Apart.{heads, tails, no_empty, multi_command, exec_command, effect_command, no_multi, no_exec, multi_no_exec, regroup}
 
 -- a whole command text
 abbrev pub IsWhole : List ℕ → Type 0

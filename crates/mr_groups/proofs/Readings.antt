@@ -1,13 +1,12 @@
 -- The command text at the front of bytes, and the group that begins with it.
-use Rattle.std.proofs.Common.{rules, ◌≡◌, ℕ, ◌+◌, ◌-◌, ◌<◌, ◌≤◌, ◌^◌, List, [], ◌∷◌, ◌++◌, ◌⊎◌, inl, inr, length, take, drop, Bool, true, false, ◌&&◌, IsTrue, refl, sym, ap, subst, ◌∙◌, append_assoc, arith, All, take-add, Result, Ok, Err, IfOk, OnErr}
+use Rattle.std.proofs.Common.{◌≡◌, ℕ, ◌+◌, ◌-◌, ◌<◌, ◌≤◌, ◌^◌, List, [], ◌∷◌, ◌++◌, ◌⊎◌, inl, inr, length, take, drop, Bool, true, false, ◌&&◌, IsTrue, refl, sym, ap, subst, ◌∙◌, append_assoc, arith, All, take-add, Result, Ok, Err, IfOk, OnErr}
 use Rattle.std.specs.Prelude.{codes}
 use Rattle.std.specs.List.{list_all}
-use Rattle.std.specs.Str.{bytes_eq}
 use Rattle.std.specs.declared.alloc.AllocError.{AllocError}
-use Rattle.std.proofs.lemmas.Slice.Eq.{bytes_eq-Decides}
 use Rattle.std.proofs.lemmas.List.{append-nil, length-take, length-take-le, length-drop, take-append-drop}
 use Rattle.std.proofs.lemmas.List.Elements.{All-nil, All-cons, All-append}
 use Rattle.std.proofs.lemmas.List.Folds.{list_all-append}
+use Rattle.mr_bytes.proofs.Numbers.{same_bytes}
 use Rattle.mr_map.specs.Bytes.{Bytes}
 use Rattle.mr_inline.specs.Language.{Continues, IsDoomed, Fails}
 use Rattle.mr_resp.specs.Command.{IsCommand, IsCommandText, BeginsWithCommand, HasCommandFault}
@@ -31,9 +30,6 @@ use Rattle.mr_groups.proofs.Sizes.{fits_by_words}
 use Rattle.mr_groups.proofs.Openings.{IsInside, multi_text, exec_text, bad_inside, doomed_inside, open_inside, bad_start, doomed_start, other_fits_nowhere, multi_fits_nowhere, exec_fits_nowhere, lone_fits_nowhere, other_starts_none, exec_starts_none}
 
 -- ---- words
-
-same_bytes : (xs ys : List ℕ) → bytes_eq xs ys ≡ true → xs ≡ ys
-same_bytes xs ys h = search (rules, bytes_eq-Decides)
 
 only_word : (ws : List Bytes) (name : Bytes) → is_only ws name ≡ true → ws ≡ name ∷ []
 only_word [] name h = cc

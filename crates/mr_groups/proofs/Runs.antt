@@ -4,6 +4,7 @@ use Rattle.std.specs.Option.{option_and_then}
 use Rattle.std.specs.FinMap.{empty}
 use Rattle.std.proofs.lemmas.List.{append-nil, length-append, take_at}
 use Rattle.std.proofs.lemmas.List.Elements.{All-nil, All-cons, All-head, All-tail, All-append}
+use Rattle.std.proofs.lemmas.Option.{same_Some}
 use Rattle.mr_effect.specs.Spelling.{text, texts}
 use Rattle.mr_effect.specs.declared.effect.Effect.{Effect}
 use Rattle.mr_keyspace.specs.Dataset.{Dataset}
@@ -17,9 +18,6 @@ use Rattle.mr_groups.specs.Replaying.{IsOpenItem}
 use Rattle.mr_groups.proofs.Apart.{no_empty, one_group}
 use Rattle.mr_groups.proofs.Notes.{one_note, open_not_whole}
 use Rattle.mr_groups.proofs.Marks.{note_no_group, open_no_note, open_no_group}
-
-pub some_is : {A : Type 0} (x y : A) → Some x ≡ Some y → x ≡ y
-some_is x y e = cc
 
 -- what was done first, and what was done behind it
 pub first_done : (f : Dataset → Option Dataset) (o : Option Dataset) (n : Dataset) → option_and_then f o ≡ Some n → (m : Dataset) × (o ≡ Some m) × (f m ≡ Some n)
@@ -116,7 +114,7 @@ behind_item (Item.note line) is js old new n p q = (old, p, q)
 behind_item (Item.group es) is js old new n p q =
     let one = first_done (apply_groups (groups_of is)) (apply_all es old) new p in
     let two = first_done (apply_groups (groups_of js)) (apply_all es old) n q in
-    let same : two.0 ≡ one.0 = some_is two.0 one.0 (sym two.1 ∙ one.1) in
+    let same : two.0 ≡ one.0 = same_Some two.0 one.0 (sym two.1 ∙ one.1) in
     (one.0, one.2, subst (λ m. apply_groups (groups_of js) m ≡ Some n) same two.2)
 
 -- ---- the longest beginning
@@ -132,7 +130,7 @@ longest : (is js : List Item) (old new n : Dataset) (unread more : List ℕ) →
     → IsStuckByGroups new unread → item_texts is ++ unread ≡ item_texts js ++ more → length (item_texts js) ≤ length (item_texts is)
 longest is [] old new n unread more g h p q stuck e = omega arith
 longest [] (j ∷ js) old new n unread more g h p q stuck e =
-    let at_new : apply_groups (groups_of (j ∷ js)) new ≡ Some n = subst (λ m. apply_groups (groups_of (j ∷ js)) m ≡ Some n) (some_is old new p) q in
+    let at_new : apply_groups (groups_of (j ∷ js)) new ≡ Some n = subst (λ m. apply_groups (groups_of (j ∷ js)) m ≡ Some n) (same_Some old new p) q in
     absurd (no_item j js new n unread (item_texts js ++ more) (All-head IsGoodItem j js h) at_new stuck (e ∙ append_assoc (item_text j) (item_texts js) more))
 longest (i ∷ is) (j ∷ js) old new n unread more g h p q stuck e =
     let split : item_text i ++ (item_texts is ++ unread) ≡ item_text j ++ (item_texts js ++ more) = sym (append_assoc (item_text i) (item_texts is) unread) ∙ (e ∙ append_assoc (item_text j) (item_texts js) more) in
@@ -151,7 +149,7 @@ texts_push (a ∷ gs) g = ap (λ (t : List ℕ). group_text a ++ t) (texts_push 
 
 applied_push : (gs : List (List Effect)) (g : List Effect) (old mid new : Dataset) → apply_groups gs old ≡ Some mid → apply_all g mid ≡ Some new → apply_groups (gs ++ g ∷ []) old ≡ Some new
 applied_push [] g old mid new p q =
-    let here : apply_all g old ≡ Some new = subst (λ m. apply_all g m ≡ Some new) (sym (some_is old mid p)) q in
+    let here : apply_all g old ≡ Some new = subst (λ m. apply_all g m ≡ Some new) (sym (same_Some old mid p)) q in
     ap (option_and_then (apply_groups [])) here
 applied_push (a ∷ gs) g old mid new p q =
     let one = first_done (apply_groups gs) (apply_all a old) mid p in

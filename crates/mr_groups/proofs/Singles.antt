@@ -1,17 +1,16 @@
 -- Effects are groups of one each.
-use Rattle.std.proofs.Common.{◌≡◌, ℕ, Bool, true, false, cond, ◌&&◌, IsTrue, Option, Some, None, List, [], ◌∷◌, sym, ◌∙◌, refl, All}
+use Rattle.std.proofs.Common.{◌≡◌, ℕ, Some, List, [], ◌∷◌, sym, ◌∙◌, refl, All}
 use Rattle.std.proofs.lemmas.List.Elements.{All-nil, All-cons, All-head, All-tail}
 use Rattle.std.specs.FinMap.{empty}
-use Rattle.mr_effect.specs.Effects.{has_spelling, words_fit}
 use Rattle.mr_effect.specs.Spelling.{texts, IsShort}
 use Rattle.mr_effect.specs.declared.effect.Effect.{Effect}
 use Rattle.mr_keyspace.specs.Dataset.{Dataset}
-use Rattle.mr_keyspace.specs.Changes.{change}
 use Rattle.mr_data.specs.Meaning.{apply, apply_all}
 use Rattle.mr_groups.specs.Effects.{IsGoodEffect, Leads, Makes}
 use Rattle.mr_groups.specs.Groups.{IsGoodGroup, singles}
 use Rattle.mr_groups.specs.Folding.{LeadsByGroups, MakesByGroups}
 use Rattle.mr_groups.proofs.Runs.{first_done, single_texts, single_applied, by_items}
+use Rattle.mr_groups.proofs.Commands.{applied_fits}
 
 pub one_good : (e : Effect) → IsGoodEffect e → IsGoodGroup (e ∷ [])
 one_good e good = record { group = refl; good = All-cons IsGoodEffect e [] good (All-nil IsGoodEffect) }
@@ -33,15 +32,6 @@ pub makes_by_singles : (bytes : List ℕ) (m : Dataset) → Makes bytes m → Ma
 makes_by_singles bytes m made = by_items bytes empty m (leads_by_singles bytes empty m made)
 
 -- ---- effects that can be applied
-
-if_some : {A : Type 0} (b c : Bool) (o : Option A) (n : A) → cond (b && c) o None ≡ Some n → IsTrue b × IsTrue c
-if_some true true o n h = (refl, refl)
-if_some true false o n h = absurd (cc)
-if_some false c o n h = absurd (cc)
-
-applied_fits : (e : Effect) (m n : Dataset) → apply e m ≡ Some n → IsTrue (has_spelling e) × IsTrue (words_fit e)
-unfolding apply
-applied_fits e m n h = if_some (has_spelling e) (words_fit e) (change e m) n h
 
 good_applied : (es : List Effect) (m n : Dataset) → apply_all es m ≡ Some n → All IsShort es → All IsGoodEffect es
 good_applied [] m n h short = All-nil IsGoodEffect

@@ -49,7 +49,7 @@ fn push_framed(effects: &[Effect<'_>], out: &mut Vec<u8>) -> Result<(), AllocErr
 }
 
 /// Appends the text of a group. An `Err` changes nothing.
-#[tactic(auto, using(crate::proofs::Framing::take_front))]
+#[tactic(auto, using(mr_resp::proofs::AppendsLemmas::take_Extends))]
 pub fn encode_group(effects: &[Effect<'_>], out: &mut Vec<u8>) -> Result<(), AllocError>
     requires { IsGroup effects.now }
     ensures ok { OnOk result (out.new.items ≡ out.old.items ++ group_text effects.now) }

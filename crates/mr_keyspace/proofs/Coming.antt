@@ -19,7 +19,7 @@ use Rattle.mr_zset.proofs.Orders.{IsPermutation-in_order}
 use Rattle.mr_zset.proofs.PairLemmas.{pairs_total, exact_pair}
 use Rattle.mr_keyspace.specs.Dataset.{Dataset}
 use Rattle.mr_keyspace.specs.Steps.{deadline_of}
-use Rattle.mr_keyspace.specs.TimedKeys.{shown, is_deadline, timed_cmp, IsIndex, timed, timed_keys}
+use Rattle.mr_keyspace.specs.TimedKeys.{dated, is_deadline, timed_cmp, IsIndex, timed, timed_keys}
 use Rattle.mr_keyspace.specs.declared.timed_key.TimedKey.{TimedKey}
 use Rattle.mr_keyspace.specs.declared.value.Entry.{Entry}
 use Rattle.mr_keyspace.proofs.Maps.{same_key}
@@ -183,22 +183,22 @@ keys_rise (e ∷ es) h = (let both = both_true (below_all bytes_cmp e.0 es) (is_
 
 -- an index, gone over
 
-strict_shown : (xs : List TimedKey) → IsStrictlySortedBy timed_cmp xs → IsStrictlySortedBy pair_cmp (map shown xs)
+strict_shown : (xs : List TimedKey) → IsStrictlySortedBy timed_cmp xs → IsStrictlySortedBy pair_cmp (map dated xs)
 unfolding IsStrictlySortedBy
 strict_shown [] up = tt
 strict_shown (x ∷ xs) up = (each x xs up.0, strict_shown xs up.1)
   where
-    each : (x : TimedKey) (ys : List TimedKey) → AllByRecursion (λ y. timed_cmp x y ≡ Less) ys → Below (shown x) (map shown ys)
+    each : (x : TimedKey) (ys : List TimedKey) → AllByRecursion (λ y. timed_cmp x y ≡ Less) ys → Below (dated x) (map dated ys)
     each x [] h = tt
     each x (y ∷ ys) h = (h.0, each x ys h.1)
 
-any_shown : (p : Pair) (xs : List TimedKey) → list_any (λ q. is_eq (pair_cmp p q)) (map shown xs) ≡ list_any (λ x. is_eq (pair_cmp p (shown x))) xs
+any_shown : (p : Pair) (xs : List TimedKey) → list_any (λ q. is_eq (pair_cmp p q)) (map dated xs) ≡ list_any (λ x. is_eq (pair_cmp p (dated x))) xs
 any_shown p [] = refl
-any_shown p (x ∷ xs) = ap (λ b. is_eq (pair_cmp p (shown x)) || b) (any_shown p xs)
+any_shown p (x ∷ xs) = ap (λ b. is_eq (pair_cmp p (dated x)) || b) (any_shown p xs)
 
-pub in_order_of_deadline : (m : Dataset) (s : List TimedKey) → IsIndex m s → IsStrictlySortedBy timed_cmp s → map shown s ≡ timed_keys m
+pub in_order_of_deadline : (m : Dataset) (s : List TimedKey) → IsIndex m s → IsStrictlySortedBy timed_cmp s → map dated s ≡ timed_keys m
 unfolding among of_key
 in_order_of_deadline m s all up =
-    btree_set_from_contains pairs_total (record { keys = map shown s }) (record { keys = timed_keys m }) (strict_shown s up)
+    btree_set_from_contains pairs_total (record { keys = map dated s }) (record { keys = timed_keys m }) (strict_shown s up)
     (strict_in_order (flat_map (of_key m) (keys m)) (are_apart m (keys m) (keys_rise (entries m) (entries_sorted m))))
     (λ p. any_shown p s ∙ all p ∙ sym (at_all m p)) exact_pair

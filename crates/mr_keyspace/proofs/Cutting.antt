@@ -1,18 +1,11 @@
 -- Items in groups.
-use Rattle.std.proofs.Common.{ℕ, zero, suc, ◌≤◌, ◌≡◌, List, [], ◌∷◌, ◌++◌, length, take, drop, Bool, true, false, ◌&&◌, refl, sym, ◌∙◌, ap, arith}
+use Rattle.std.proofs.Common.{ℕ, zero, suc, ◌≤◌, ◌≡◌, List, [], ◌∷◌, ◌++◌, length, take, drop, Bool, true, ◌&&◌, refl, sym, ◌∙◌, ap, arith}
 use Rattle.std.specs.Prelude.{◌≢◌, IsTrue}
 use Rattle.std.specs.List.{AllByRecursion, flat_map, list_all}
 use Rattle.std.proofs.lemmas.List.{length-drop, length-take, take-append-drop}
 use Rattle.std.proofs.lemmas.List.Folds.{list_all-append}
+use Rattle.mr_bytes.proofs.Both.{first, second}
 use Rattle.mr_keyspace.specs.Cuts.{most_items, groups, cut}
-
-left : (a b : Bool) → a && b ≡ true → a ≡ true
-left true b h = refl
-left false b h = cc
-
-right : (a b : Bool) → a && b ≡ true → b ≡ true
-right true b h = h
-right false b h = cc
 
 never : (n : ℕ) → suc n ≤ zero → ⊥
 never n h = omega (arith, h)
@@ -60,7 +53,7 @@ module _ {X : Type 0} where
   are_groups : (p : X → Bool) (n : ℕ) (xs : List X) → IsTrue (list_all p xs) → AllByRecursion (IsGroup p) (groups n xs)
   are_groups p zero xs h = tt
   are_groups p (suc n) [] h = tt
-  are_groups p (suc n) (x ∷ xs) h = (record { some = λ e. cc; few = omega (arith, length-take most_items (x ∷ xs)); all = left _ _ (parts_all p most_items (x ∷ xs) h) }, are_groups p n (drop most_items (x ∷ xs)) (right _ _ (parts_all p most_items (x ∷ xs) h)))
+  are_groups p (suc n) (x ∷ xs) h = (record { some = λ e. cc; few = omega (arith, length-take most_items (x ∷ xs)); all = first _ _ (parts_all p most_items (x ∷ xs) h) }, are_groups p n (drop most_items (x ∷ xs)) (second _ _ (parts_all p most_items (x ∷ xs) h)))
 
   pub cut_groups : (p : X → Bool) (xs : List X) → IsTrue (list_all p xs) → AllByRecursion (IsGroup p) (cut xs)
   cut_groups p xs h = are_groups p (length xs) xs h

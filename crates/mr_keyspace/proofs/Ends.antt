@@ -52,7 +52,7 @@ get_joined (y ∷ ys) x = get_joined ys x
 one_less : (ys : List Bytes) (x : Bytes) → length (ys ++ x ∷ []) - 1 ≡ length ys
 one_less ys x = omega (arith, length-append ys (x ∷ []))
 
-may_take_one : (n : ℕ) → 0 < n → may_take (pos 1) n ≡ true
+pub may_take_one : (n : ℕ) → 0 < n → may_take (pos 1) n ≡ true
 may_take_one n h = le-leb 1 n (omega (arith, h))
 
 -- what taking the item at the back left

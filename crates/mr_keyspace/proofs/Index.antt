@@ -1,17 +1,16 @@
 -- An index of deadlines beside a map, before and after one change.
 use Rattle.std.proofs.Common.{rules, ◌≡◌, ℤ, List, [], Bool, true, false, ◌&&◌, cond, Option, Some, None, refl, sym, ◌∙◌, ap, subst}
-use Rattle.std.specs.Prelude.{if◌then◌else◌, OnErr}
-use Rattle.std.specs.declared.result.Result.{Result}
-use Rattle.std.specs.declared.result.Result.TheVariants.{Ok, Err}
+use Rattle.std.specs.Prelude.{if◌then◌else◌}
 use Rattle.std.specs.Ordering.{int_eq, is_eq, eq_by_cmp}
 use Rattle.std.specs.Cmp.{tied_then}
 use Rattle.std.specs.FinMap.{get, insert, remove, empty, get-empty}
 use Rattle.std.proofs.lemmas.Bool.Decides.{Decides-int_eq}
+use Rattle.std.proofs.Math.Bool.{and-false, and-true}
 use Rattle.mr_map.specs.Bytes.{Bytes, bytes_cmp}
 use Rattle.mr_zset.specs.Pairs.{pair_cmp}
 use Rattle.mr_keyspace.specs.Dataset.{Dataset, put_at}
 use Rattle.mr_keyspace.specs.Steps.{deadline_of}
-use Rattle.mr_keyspace.specs.TimedKeys.{shown, is_deadline, has, IsIndex, IsDeadlineOf, Reindexes, Updates}
+use Rattle.mr_keyspace.specs.TimedKeys.{dated, is_deadline, has, IsIndex, IsDeadlineOf, Reindexes, Updates}
 use Rattle.mr_keyspace.specs.declared.timed_key.TimedKey.{TimedKey}
 use Rattle.mr_keyspace.specs.declared.value.Entry.{Entry}
 use Rattle.mr_keyspace.proofs.Maps.{same_key, insert_same, remove_insert, remove_absent}
@@ -43,16 +42,8 @@ unmoved k d s of p = elim (eq_by_cmp bytes_cmp p.0 k) as (λ b. eq_by_cmp bytes_
 ] refl
 
 -- when a timed key is a key's with this deadline
-tie : (p : Bytes × ℤ) (e : TimedKey) → is_eq (pair_cmp p (shown e)) ≡ (int_eq p.1 e.deadline && eq_by_cmp bytes_cmp p.0 e.key)
+tie : (p : Bytes × ℤ) (e : TimedKey) → is_eq (pair_cmp p (dated e)) ≡ (int_eq p.1 e.deadline && eq_by_cmp bytes_cmp p.0 e.key)
 tie p e = sym (tied_then _ _)
-
-drop_false : (a : Bool) → (a && false) ≡ false
-drop_false true = refl
-drop_false false = refl
-
-keep_true : (a : Bool) → (a && true) ≡ a
-keep_true true = refl
-keep_true false = refl
 
 is_itself : (a : Bool) → cond a true false ≡ a
 is_itself true = refl
@@ -71,8 +62,8 @@ pub comes : (e : TimedKey) (s n : List TimedKey) → IsDeadlineOf e.key None s �
 comes e s n of u p =
     u p ∙ ap (λ b. cond b true (has s p)) (tie p e)
     ∙ elim (eq_by_cmp bytes_cmp p.0 e.key) as (λ b. eq_by_cmp bytes_cmp p.0 e.key ≡ b → cond (int_eq p.1 e.deadline && b) true (has s p) ≡ (if b then int_eq p.1 e.deadline else has s p)) [
-      | true ↦ λ h. ap (λ c. cond c true (has s p)) (keep_true (int_eq p.1 e.deadline)) ∙ ap (cond (int_eq p.1 e.deadline) true) (of p (same_key p.0 e.key h)) ∙ is_itself (int_eq p.1 e.deadline)
-      | false ↦ λ h. ap (λ c. cond c true (has s p)) (drop_false (int_eq p.1 e.deadline))
+      | true ↦ λ h. ap (λ c. cond c true (has s p)) (and-true (int_eq p.1 e.deadline)) ∙ ap (cond (int_eq p.1 e.deadline) true) (of p (same_key p.0 e.key h)) ∙ is_itself (int_eq p.1 e.deadline)
+      | false ↦ λ h. ap (λ c. cond c true (has s p)) (and-false (int_eq p.1 e.deadline))
     ] refl
 
 -- the one timed key of a key goes
@@ -80,8 +71,8 @@ pub goes_out : (e : TimedKey) (s n : List TimedKey) → IsDeadlineOf e.key (Some
 goes_out e s n of u p =
     u p ∙ ap (λ b. cond b false (has s p)) (tie p e)
     ∙ elim (eq_by_cmp bytes_cmp p.0 e.key) as (λ b. eq_by_cmp bytes_cmp p.0 e.key ≡ b → cond (int_eq p.1 e.deadline && b) false (has s p) ≡ (if b then false else has s p)) [
-      | true ↦ λ h. ap (λ c. cond c false (has s p)) (keep_true (int_eq p.1 e.deadline)) ∙ ap (cond (int_eq p.1 e.deadline) false) (of p (same_key p.0 e.key h)) ∙ none_left (int_eq p.1 e.deadline)
-      | false ↦ λ h. ap (λ c. cond c false (has s p)) (drop_false (int_eq p.1 e.deadline))
+      | true ↦ λ h. ap (λ c. cond c false (has s p)) (and-true (int_eq p.1 e.deadline)) ∙ ap (cond (int_eq p.1 e.deadline) false) (of p (same_key p.0 e.key h)) ∙ none_left (int_eq p.1 e.deadline)
+      | false ↦ λ h. ap (λ c. cond c false (has s p)) (and-false (int_eq p.1 e.deadline))
     ] refl
 
 two_numbers : (a b z : ℤ) → int_eq a b ≡ false → int_eq z a ≡ true → int_eq z b ≡ false
@@ -99,12 +90,12 @@ moves first second s n r one apart of u v p =
     v p ∙ ap (λ b. cond b false (has n p)) (tie p first)
     ∙ ap (cond (int_eq p.1 first.deadline && eq_by_cmp bytes_cmp p.0 first.key) false) (u p ∙ ap (λ b. cond b true (has s p)) (tie p second ∙ ap (λ (k : Bytes). int_eq p.1 second.deadline && eq_by_cmp bytes_cmp p.0 k) one))
     ∙ elim (eq_by_cmp bytes_cmp p.0 first.key) as (λ b. eq_by_cmp bytes_cmp p.0 first.key ≡ b → cond (int_eq p.1 first.deadline && b) false (cond (int_eq p.1 second.deadline && b) true (has s p)) ≡ (if b then int_eq p.1 second.deadline else has s p)) [
-      | true ↦ λ h. ap (λ c. cond c false (cond (int_eq p.1 second.deadline && true) true (has s p))) (keep_true (int_eq p.1 first.deadline))
-          ∙ ap (λ c. cond (int_eq p.1 first.deadline) false (cond c true (has s p))) (keep_true (int_eq p.1 second.deadline))
+      | true ↦ λ h. ap (λ c. cond c false (cond (int_eq p.1 second.deadline && true) true (has s p))) (and-true (int_eq p.1 first.deadline))
+          ∙ ap (λ c. cond (int_eq p.1 first.deadline) false (cond c true (has s p))) (and-true (int_eq p.1 second.deadline))
           ∙ ap (λ c. cond (int_eq p.1 first.deadline) false (cond (int_eq p.1 second.deadline) true c)) (of p (same_key p.0 first.key h))
           ∙ not_both (int_eq p.1 first.deadline) (int_eq p.1 second.deadline) (two_numbers first.deadline second.deadline p.1 apart)
-      | false ↦ λ h. ap (λ c. cond c false (cond (int_eq p.1 second.deadline && false) true (has s p))) (drop_false (int_eq p.1 first.deadline))
-          ∙ ap (λ c. cond c true (has s p)) (drop_false (int_eq p.1 second.deadline))
+      | false ↦ λ h. ap (λ c. cond c false (cond (int_eq p.1 second.deadline && false) true (has s p))) (and-false (int_eq p.1 first.deadline))
+          ∙ ap (λ c. cond c true (has s p)) (and-false (int_eq p.1 second.deadline))
     ] refl
 
 -- numbers that are tied are one
@@ -170,7 +161,3 @@ module _ (m : Dataset) (k : Bytes) (s : List TimedKey) (all : IsIndex m s) where
 -- a key that is there has another entry
 pub IsIndex-set : (m : Dataset) (k name : Bytes) (e : Entry) (s n : List TimedKey) → IsIndex m s → name ≡ k → Reindexes name e.deadline s n → IsIndex (insert m k e) n
 IsIndex-set m k name e s n all same here = IsIndex-put m k (Some e) s n all (subst (λ (q : Bytes). Reindexes q e.deadline s n) same here)
-
-pub on_err : {A E : Type 0} {P : Type 0} (r : Result A E) → P → OnErr r P
-on_err (Ok a) p = tt
-on_err (Err e) p = p

@@ -1,5 +1,5 @@
-pub mod Both
 pub mod Ends
+pub mod Looking
 pub mod Maps
 pub mod Moving
 pub mod Nonempty

@@ -10,7 +10,7 @@ use Rattle.mr_bytes.specs.declared.ends.End.TheVariants.{Left, Right}
 use Rattle.mr_keyspace.specs.Collections.{with_fields, without_fields, with_members, without_members, with_scores, without_scores, put_item, pushed}
 use Rattle.mr_keyspace.proofs.Maps.{some_len, remove_empty}
 
-positive : (n : ℕ) → 0 < n → (n == 0) ≡ false
+pub positive : (n : ℕ) → 0 < n → (n == 0) ≡ false
 positive n h = ne_eqb n 0 (λ e. omega (arith, e, h))
 
 fields_stay : (ps : List (Bytes × Bytes)) (h : ByteMap Bytes) → 0 < len h → 0 < len (with_fields ps h)

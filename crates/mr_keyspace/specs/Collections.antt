@@ -1,13 +1,14 @@
 -- What is done to the collection that a key holds.
 use Rattle.std.specs.Prelude.{ℕ, ℤ, pos, ◌+◌, ◌-◌, List, [], ◌∷◌, ◌++◌, length, take, drop, slice_get, Bool, ◌&&◌, int_le, int_lt, Option}
 use Rattle.std.specs.Option.{option_map}
-use Rattle.std.specs.FinMap.{insert, remove}
+use Rattle.std.specs.FinMap.{insert, remove, empty}
 use Rattle.mr_map.specs.Bytes.{Bytes, ByteMap}
 use Rattle.mr_value.specs.Lists.{first_place}
 use Rattle.mr_bytes.specs.declared.ends.End.{End}
 use Rattle.mr_bytes.specs.declared.ends.End.TheVariants.{Left, Right}
 use Rattle.mr_bytes.specs.declared.ends.Side.{Side}
 use Rattle.mr_bytes.specs.declared.ends.Side.TheVariants.{Before, After}
+pub use Rattle.mr_zset.specs.Leaving.{without_scores}
 
 -- ---- hashes
 
@@ -15,6 +16,10 @@ use Rattle.mr_bytes.specs.declared.ends.Side.TheVariants.{Before, After}
 abbrev pub with_fields : List (Bytes × Bytes) → ByteMap Bytes → ByteMap Bytes
 with_fields [] h = h
 with_fields (p ∷ ps) h = with_fields ps (insert h p.0 p.1)
+
+-- the fields that pairs name, each with its last value
+abbrev pub last_values : List (Bytes × Bytes) → ByteMap Bytes
+last_values pairs = with_fields pairs empty
 
 abbrev pub without_fields : List Bytes → ByteMap Bytes → ByteMap Bytes
 without_fields [] h = h
@@ -26,6 +31,10 @@ abbrev pub with_members : List Bytes → ByteMap (Unit {0}) → ByteMap (Unit {0
 with_members [] s = s
 with_members (x ∷ xs) s = with_members xs (insert s x tt)
 
+-- these words, each once
+abbrev pub as_set : List Bytes → ByteMap (Unit {0})
+as_set xs = with_members xs empty
+
 abbrev pub without_members : List Bytes → ByteMap (Unit {0}) → ByteMap (Unit {0})
 without_members [] s = s
 without_members (x ∷ xs) s = without_members xs (remove s x)
@@ -36,10 +45,6 @@ without_members (x ∷ xs) s = without_members xs (remove s x)
 abbrev pub with_scores : List (Bytes × ℤ) → ByteMap ℤ → ByteMap ℤ
 with_scores [] s = s
 with_scores (p ∷ ps) s = with_scores ps (insert s p.0 p.1)
-
-abbrev pub without_scores : List Bytes → ByteMap ℤ → ByteMap ℤ
-without_scores [] s = s
-without_scores (x ∷ xs) s = without_scores xs (remove s x)
 
 -- ---- lists
 

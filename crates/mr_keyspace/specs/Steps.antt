@@ -83,8 +83,8 @@ sorted_set_of (value.SortedSet scores) = Some scores
 sorted_set_of _ = None
 
 -- texts, where an absent key counts as this one; an empty text stays as others do
-abbrev pub texts : Bytes → Kind Bytes
-texts absent = record { none = absent; of = text_of; is_none = λ text. false; value = value.Text }
+abbrev pub strings : Bytes → Kind Bytes
+strings absent = record { none = absent; of = text_of; is_none = λ text. false; value = value.Text }
 
 abbrev pub hashes : Kind (ByteMap Bytes)
 hashes = record { none = empty; of = hash_of; is_none = λ fields. len fields == 0; value = value.Hash }
@@ -120,15 +120,15 @@ module _ {X : Type 0} (kind : Kind X) where
 
 -- undefined past the word limit
 abbrev pub append_step : Bytes → Step
-append_step more = on (texts []) (λ text. fitting (text ++ more))
+append_step more = on (strings []) (λ text. fitting (text ++ more))
 
 -- undefined past the word limit; an empty part changes nothing, and makes no key
 abbrev pub set_range_step : ℤ → Bytes → Step
-set_range_step offset part = if length part == 0 then same (texts []) else on (texts []) (λ text. fitting (overwritten (unsigned_abs offset) part text))
+set_range_step offset part = if length part == 0 then same (strings []) else on (strings []) (λ text. fitting (overwritten (unsigned_abs offset) part text))
 
 -- an absent key counts as 0; undefined where the text spells no number, and where the sum hasn't 64 bits
 abbrev pub increase_step : ℤ → Step
-increase_step by = on (texts (codes "0")) (increased by)
+increase_step by = on (strings (codes "0")) (increased by)
 
 -- ---- hashes
 

@@ -12,8 +12,8 @@ use Rattle.mr_keyspace.specs.Steps.{deadline_of}
 use Rattle.mr_keyspace.specs.declared.timed_key.TimedKey.{TimedKey}
 
 -- a timed key, as a key with its deadline
-abbrev pub shown : TimedKey → Bytes × ℤ
-shown x = (x.key, x.deadline)
+abbrev pub dated : TimedKey → Bytes × ℤ
+dated x = (x.key, x.deadline)
 
 -- this deadline, and no other or none
 abbrev pub is_deadline : ℤ → Option ℤ → Bool
@@ -21,15 +21,15 @@ is_deadline d None = false
 is_deadline d (Some e) = int_eq d e
 
 abbrev pub timed_cmp : TimedKey → TimedKey → Ordering
-timed_cmp x y = pair_cmp (shown x) (shown y)
+timed_cmp x y = pair_cmp (dated x) (dated y)
 
 -- whether an index has this key with this deadline
 abbrev pub has : List TimedKey → Bytes × ℤ → Bool
-has s p = list_any (λ x. is_eq (pair_cmp p (shown x))) s
+has s p = list_any (λ x. is_eq (pair_cmp p (dated x))) s
 
 -- a timed key comes into an index, or goes from it, and of others that has what it had
 abbrev pub Updates : TimedKey → Bool → List TimedKey → List TimedKey → Type 0
-Updates e there s n = (p : Bytes × ℤ) → has n p ≡ cond (is_eq (pair_cmp p (shown e))) there (has s p)
+Updates e there s n = (p : Bytes × ℤ) → has n p ≡ cond (is_eq (pair_cmp p (dated e))) there (has s p)
 
 -- the index has exactly the entries' deadlines
 abbrev pub IsIndex : Dataset → List TimedKey → Type 0

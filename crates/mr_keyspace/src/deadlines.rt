@@ -3,7 +3,7 @@ ghost use Rattle.std.specs.Prelude.{◌≡◌, ◌<◌, ◌^◌, [], true, false
 ghost use Rattle.std.specs.List.Sorted.{IsStrictlySortedBy};
 ghost use Rattle.mr_zset.specs.Limits.{end_below, end_cmp};
 ghost use Rattle.mr_zset.specs.declared.bound.Bound.TheVariants.{Included};
-ghost use Rattle.mr_keyspace.specs.TimedKeys.{Updates, count_come, shown, timed_cmp};
+ghost use Rattle.mr_keyspace.specs.TimedKeys.{Updates, count_come, dated, timed_cmp};
 
 use crate::timed_key::TimedKey;
 use mr_order::{Iter, Ordered, Query};
@@ -18,7 +18,7 @@ struct Moment(i64);
 impl Query<TimedKey> for Moment {
     ghost compare = { λ q x. end_cmp (Included q.0) x.deadline };
 
-    ghost below_greater = { λ q x y. end_below (Included q.0) (shown x) (shown y) };
+    ghost below_greater = { λ q x y. end_below (Included q.0) (dated x) (dated y) };
 
     fn compare(&self, item: &TimedKey) -> Ordering {
         if item.deadline <= self.0 {
@@ -89,7 +89,7 @@ impl Deadlines {
 
     /// How many deadlines have come at a moment. It is compared with few of them, however many there are.
     pub(crate) fn count_come(&self, now: i64) -> usize
-        ensures count { result ≡ count_come now (map shown self.now) }
+        ensures count { result ≡ count_come now (map dated self.now) }
         ensures ordered { IsStrictlySortedBy timed_cmp self.now }
         ensures small { result < 2 ^ 63 }
     {

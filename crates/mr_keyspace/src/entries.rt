@@ -1,13 +1,14 @@
 // Entries by key, whatever they hold.
 ghost use Rattle.std.specs.Prelude.{◌≡◌, ◌≢◌, ◌<◌, ◌^◌, map as each, option_copied, OnOk, Err};
 ghost use Rattle.std.specs.FinMap as map;
-ghost use Rattle.mr_keyspace.specs.TimedKeys.{count_come, timed_keys, shown};
+ghost use Rattle.mr_keyspace.specs.TimedKeys.{count_come, timed_keys, dated};
 ghost use Rattle.mr_keyspace.specs.Steps.{without_deadline};
 
 mod copying;
 mod deadlines;
 mod hashes;
 mod lists;
+mod looking;
 mod moves;
 mod running;
 mod sets;
@@ -82,7 +83,7 @@ impl Entries {
 
     /// The keys that have a deadline with it, in order of deadline and then of bytes.
     pub fn timed_keys(&self) -> Iter<'_, TimedKey>
-        ensures { each shown result ≡ timed_keys self.now }
+        ensures { each dated result ≡ timed_keys self.now }
     {
         self.by_key.timed_keys()
     }

@@ -3,7 +3,7 @@ ghost use Rattle.std.specs.Prelude.{◌≡◌, ◌≢◌, ◌<◌, ◌^◌, None
 ghost use Rattle.std.specs.FinMap as map;
 ghost use Rattle.std.specs.Option.{option_copied_mut};
 ghost use Rattle.mr_keyspace.specs.Changes.{at_key};
-ghost use Rattle.mr_keyspace.specs.TimedKeys.{count_come, timed_keys, shown, IsDeadlineOf, Reindexes};
+ghost use Rattle.mr_keyspace.specs.TimedKeys.{count_come, timed_keys, dated, IsDeadlineOf, Reindexes};
 ghost use Rattle.mr_keyspace.specs.Outcome.{Applies};
 ghost use Rattle.mr_keyspace.specs.Steps.{deadline_step};
 
@@ -220,7 +220,7 @@ impl Keyspace {
 
     /// The keys that have a deadline with it, in order of deadline and then of bytes.
     pub(crate) fn timed_keys(&self) -> Iter<'_, TimedKey>
-        ensures { each shown result ≡ timed_keys self.now }
+        ensures { each dated result ≡ timed_keys self.now }
     {
         self.timed_keys.iter()
     }

@@ -65,7 +65,7 @@ pub record Spoils (c : CourseState) (m : Dataset) (f : FollowState) (u : List �
 
 -- Memory is lacking. What was read of a snapshot may have been taken; the bytes are the same.
 pub record Lacks (c : CourseState) (m : Dataset) (name : LinkId) (f : FollowState) (u : List ℕ) (g : FollowState) (d : CourseState) (n : Dataset) (told : List ℕ) : Type 0 where
-  pub cause : follow.MayLack f.phase c.lineage.stream.offset u g.kept
+  pub cause : follow.MayLack f.phase c.lineage.stream.offset u g.kept m
   pub stays : follow.Stays f u m g n told
   pub is : d ≡ reads_on name g c
 

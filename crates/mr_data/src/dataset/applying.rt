@@ -1,5 +1,5 @@
 // Effects on a dataset.
-ghost use Rattle.std.specs.Prelude.{◌≡◌, ◌≢◌, ◌↔◌, ◌&&◌, [], Some, None, Err, IsOk, OnOk};
+ghost use Rattle.std.specs.Prelude.{◌≡◌, ◌≢◌, ◌↔◌, ◌&&◌, [], Some, None, Err, IsOk, OnOk, is_some};
 ghost use Rattle.std.specs.FinMap as map;
 ghost use Rattle.std.specs.List.{AllByRecursion};
 ghost use Rattle.mr_effect.specs.Effects.{has_spelling, words_fit};
@@ -11,6 +11,17 @@ use mr_effect::Effect;
 use mr_keyspace::ApplyFault;
 
 impl Dataset {
+    /// Whether an effect can be done here: where it can't, it is refused. It takes no memory.
+    #[tactic(auto, unfolding(crate::specs::Meaning::apply))]
+    pub fn applies(&self, effect: &Effect<'_>) -> bool
+        ensures { result ≡ is_some (apply effect.now self.now) }
+    {
+        if is_possible(effect) {
+            return self.entries.applies(effect);
+        }
+        false
+    }
+
     /// Does an effect, whose words are copied. A dataset for which memory ran out is emptied.
     #[tactic(auto, unfolding(crate::specs::Meaning::apply))]
     pub fn apply(&mut self, effect: &Effect<'_>) -> Result<(), ApplyFault>

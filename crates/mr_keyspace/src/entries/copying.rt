@@ -67,7 +67,7 @@ impl Entries {
     }
 
     /// Whether fields may be put to the key.
-    fn takes_fields(&self, key: &[u8]) -> bool
+    pub(super) fn takes_fields(&self, key: &[u8]) -> bool
         ensures { result ≡ is_some (held hashes (map.get self.now key.now)) }
     {
         match self.by_key.get(key) {

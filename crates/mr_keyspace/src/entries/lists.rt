@@ -299,7 +299,7 @@ fn place_beside(list: &ListValue, side: Side, pivot: &[u8]) -> Option<usize>
 }
 
 /// How many items a count takes from a list of this length. None for a count below 1 or past the length.
-fn taken_of(count: i64, len: usize) -> Option<usize>
+pub(super) fn taken_of(count: i64, len: usize) -> Option<usize>
     ensures { MatchOption result (may_take count len ≡ false) (λ n.
         (may_take count len ≡ true) × (n ≡ unsigned_abs count)) }
 {
@@ -314,7 +314,7 @@ fn taken_of(count: i64, len: usize) -> Option<usize>
 }
 
 /// The place, where a list of this length has it.
-fn place_of(place: i64, len: usize) -> Option<usize>
+pub(super) fn place_of(place: i64, len: usize) -> Option<usize>
     ensures { MatchOption result (is_place_of place len ≡ false) (λ i.
         (is_place_of place len ≡ true) × (i ≡ unsigned_abs place) × (i < len)) }
 {
@@ -329,7 +329,7 @@ fn place_of(place: i64, len: usize) -> Option<usize>
 }
 
 /// The first and the last place of a part, where a list of this length has it and it isn't empty.
-fn part_of(first: i64, last: i64, len: usize) -> Option<(usize, usize)>
+pub(super) fn part_of(first: i64, last: i64, len: usize) -> Option<(usize, usize)>
     ensures { MatchOption result (is_part_of first last len ≡ false) (λ p.
         (is_part_of first last len ≡ true) × (p.0 ≡ unsigned_abs first) ×
         (p.1 ≡ unsigned_abs last) × (p.0 ≤ p.1) × (p.1 < len)) }

@@ -92,7 +92,7 @@ impl Entries {
     }
 
     /// Whether the key holds a set with this member.
-    fn has_member(&self, key: &[u8], member: &[u8]) -> bool
+    pub(super) fn has_member(&self, key: &[u8], member: &[u8]) -> bool
         ensures { result ≡ has_member member.now (map.get self.now key.now) }
     {
         match self.by_key.get(key) {

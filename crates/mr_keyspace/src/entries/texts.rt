@@ -3,7 +3,7 @@ ghost use Rattle.std.specs.Prelude.{◌≡◌, ◌≢◌, ◌↔◌, [], ◌++�
 ghost use Rattle.std.specs.FinMap as map;
 ghost use Rattle.mr_bytes.specs.Texts.{overwritten};
 ghost use Rattle.mr_keyspace.specs.Changes.{at_key};
-ghost use Rattle.mr_keyspace.specs.Steps.{set_step, del_step, append_step, set_range_step, increase_step, held, on, same, texts};
+ghost use Rattle.mr_keyspace.specs.Steps.{set_step, del_step, append_step, set_range_step, increase_step, held, on, same, strings};
 ghost use Rattle.mr_keyspace.specs.Texts.{fitting, increased, sum_with};
 ghost use Rattle.mr_keyspace.specs.Outcome.{Applies};
 
@@ -70,7 +70,7 @@ impl Entries {
 
     /// Changes nothing. A key that holds another kind is refused.
     fn keep_text(&mut self, key: &[u8]) -> Result<(), ApplyFault>
-        ensures { Applies (at_key (same (texts [])) key.now self.old) self.old result self.new }
+        ensures { Applies (at_key (same (strings [])) key.now self.old) self.old result self.new }
     {
         if !self.takes_text(key) {
             return Err(ApplyFault::Refused);
@@ -79,8 +79,8 @@ impl Entries {
     }
 
     /// Whether the key holds a text or is absent.
-    fn takes_text(&self, key: &[u8]) -> bool
-        ensures { result ≡ is_some (held (texts []) (map.get self.now key.now)) }
+    pub(super) fn takes_text(&self, key: &[u8]) -> bool
+        ensures { result ≡ is_some (held (strings []) (map.get self.now key.now)) }
     {
         match self.by_key.get(key) {
             None => true,
@@ -92,7 +92,7 @@ impl Entries {
     /// it holds another kind or the text grows past the limit.
     fn write_range(&mut self, key: Word<'_>, offset: usize, part: &[u8]) -> Result<(), ApplyFault>
         ensures { Applies
-            (at_key (on (texts []) (λ text. fitting (overwritten offset part.now text))) key.entry
+            (at_key (on (strings []) (λ text. fitting (overwritten offset part.now text))) key.entry
             self.old) self.old result self.new }
     {
         let alloc = self.alloc;
@@ -126,7 +126,7 @@ impl Entries {
 
 /// Whether a value is a text.
 fn is_text(value: &Value) -> bool
-    ensures { result ≡ is_some ((texts []).of value.now) }
+    ensures { result ≡ is_some ((strings []).of value.now) }
 {
     match value {
         Value::Text(_) => true,
@@ -181,7 +181,7 @@ fn increased(alloc: Global, by: i64, text: &[u8]) -> Result<CompactBytes, ApplyF
 }
 
 /// The number that a text spells, and this much, together. None where it spells none, or the sum has no 64 bits.
-fn sum_with(by: i64, text: &[u8]) -> Option<i64>
+pub(super) fn sum_with(by: i64, text: &[u8]) -> Option<i64>
     ensures { result ≡ sum_with by text.now }
 {
     read_i64(text)?.checked_add(by)

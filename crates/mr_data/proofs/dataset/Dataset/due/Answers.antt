@@ -2,7 +2,7 @@ use Rattle.std.proofs.Common.{◌≡◌, map, false, true, Some, sym, ◌∙◌,
 use Rattle.std.specs.Prelude.{option_copied, int_le}
 use Rattle.std.specs.Option.{option_map}
 use Rattle.std.proofs.lemmas.Int.{to_z-of_z}
-use Rattle.mr_keyspace.specs.TimedKeys.{shown as entered}
+use Rattle.mr_keyspace.specs.TimedKeys.{dated as entered}
 use Rattle.mr_data.proofs.Dues.{first_expired, first_later, none_first, is_none, is_due}
 use Rattle.mr_data.proofs.dataset.Dataset.due.Goals as goal
 

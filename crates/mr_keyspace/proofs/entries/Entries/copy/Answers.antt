@@ -1,11 +1,11 @@
 use Rattle.std.proofs.Common.{subst, to_z, of_z, w64}
 use Rattle.std.specs.Prelude.{IsTrue}
 use Rattle.mr_bytes.specs.Number.{is_i64}
+use Rattle.mr_bytes.proofs.Both.{first, second}
 use Rattle.mr_effect.specs.Effects.{has_spelling}
 use Rattle.mr_keyspace.specs.Changes.{change, at_key}
 use Rattle.mr_keyspace.specs.Outcome.{Applies}
 use Rattle.mr_keyspace.specs.Steps.{increase_step, pop_step, set_item_step, remove_items_step, trim_step}
-use Rattle.mr_keyspace.proofs.Both.{first, second}
 use Rattle.mr_keyspace.proofs.Numbers.{same_number}
 use Rattle.mr_keyspace.proofs.entries.Entries.copy.Goals as goal
 

@@ -1,6 +1,7 @@
 use Rattle.std.proofs.Common.{rules, ◌≡◌, sym, ◌∙◌}
+use Rattle.mr_map.proofs.Hashed.{on_err}
 use Rattle.mr_keyspace.proofs.Maps.{insert_same}
-use Rattle.mr_keyspace.proofs.Index.{IsIndex-kept, IsIndex-value, IsIndex-set, on_err}
+use Rattle.mr_keyspace.proofs.Index.{IsIndex-kept, IsIndex-value, IsIndex-set}
 use Rattle.mr_keyspace.proofs.keyspace.Keyspace.put.Goals as goal
 
 pub invariant_of-self-then-eq : goal.invariant_of-self-then-eq
