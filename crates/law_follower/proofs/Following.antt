@@ -7,8 +7,6 @@ use Rattle.mr_groups.specs.Groups.{group_text, group_texts}
 use Rattle.mr_effect.specs.declared.effect.Effect.{Effect}
 use Rattle.mr_effect.specs.declared.effect.Effect.TheVariants as effect
 use Rattle.mr_keyspace.specs.Dataset.{Dataset}
-use Rattle.mr_keyspace.specs.Changes.{change}
-use Rattle.mr_data.specs.Meaning.{apply}
 use Rattle.mr_data.specs.declared.given.Given.{Given}
 use Rattle.mr_repl.specs.Lineage.{LineageState}
 use Rattle.mr_follower.specs.State.{FollowState, Agrees}
@@ -27,6 +25,7 @@ use Rattle.mr_node.specs.declared.fault.NodeFault.{NodeFault}
 use Rattle.mr_node.specs.declared.fault.NodeFault.TheVariants as fault
 use Rattle.mr_node.proofs.Ends.{none_some}
 use Rattle.mr_node.proofs.Linking.{beat_is, ping_bytes}
+use Rattle.mr_node.proofs.Ticking.{beat_goes}
 use Rattle.law_follower.specs.Runs.{IsFollowing, Streams, Call, CallRow, Runs, came_by, all_that_came}
 use Rattle.law_follower.specs.Runs.Call.{feed, step, another}
 use Rattle.law_follower.specs.Streaming.{AppliesWhatComesFirst, Begins, FollowsItsStream, HasApplied, HasFollowed, HasNothingWhole, HeartbeatsAreCounted, IdleHasExactlyTheWhole, IdleLeavesNothingWhole, NoStepLeaves, RunsGoOn, StaysWith}
@@ -182,9 +181,5 @@ no_step_leaves calls a b c l u now groups given fresh result sound s begins runs
     ]
 
 -- ---- heartbeats
-beat_goes : (m : Dataset) → apply effect.Ping m ≡ Some m
-unfolding apply change
-beat_goes m = refl
-
 pub heartbeats : HeartbeatsAreCounted
 heartbeats m = (beat_goes m, ap length (sym (ping_bytes ∙ beat_is)))

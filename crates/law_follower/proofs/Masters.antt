@@ -15,6 +15,7 @@ use Rattle.mr_follower.specs.Handshake.{IsGreeting}
 use Rattle.mr_follower.specs.Rows as follow
 use Rattle.mr_follower.specs.declared.phase.Phase.{Phase}
 use Rattle.mr_follower.specs.declared.phase.Phase.TheVariants as phase
+use Rattle.mr_follower.proofs.Followings.{announced_no, asked_no}
 use Rattle.mr_replication.specs.State.{CourseState, grows, reads_on}
 use Rattle.mr_replication.specs.Rows as course
 use Rattle.mr_replication.specs.Rows.{Listens, UpstreamRow}
@@ -35,13 +36,6 @@ use Rattle.mr_node.specs.declared.fault.NodeFault.TheVariants as fault
 use Rattle.law_follower.specs.Runs.{Streams}
 use Rattle.law_follower.specs.Streaming.{HasApplied, HasWhole, Rests, StaysWith}
 use Rattle.law_follower.proofs.Applying.{none_applied, reader_is}
-
--- ---- in the stream
-asked_no : (p : Phase) → p ≡ phase.Stream → p ≡ phase.Psync → ⊥
-asked_no p streams asked = let wrong : phase.Psync ≡ phase.Stream = sym asked ∙ streams in cc
-
-announced_no : (p : Phase) (id : List ℕ) (o : ℕ) → p ≡ phase.Stream → p ≡ phase.Snapshot id o → ⊥
-announced_no p id o streams announced = let wrong : phase.Snapshot id o ≡ phase.Stream = sym announced ∙ streams in cc
 
 -- ---- bytes that come
 pub feeds : (a b : NodeState) (l : LinkId) (u bytes : List ℕ) → IsWindow a.core.lineage.stream → Streams a l u → Feeds a l bytes b → HasApplied [] a l (u ++ bytes) b

@@ -2,6 +2,7 @@
 use Rattle.std.proofs.Common.{◌≡◌, ◌≢◌, ℕ, ℤ, List, [], Bool, true, false, not, Option, None, Some, Result, Ok, Err, refl, sym, ap, ◌∙◌}
 use Rattle.std.specs.Prelude.{if◌then◌else◌}
 use Rattle.std.specs.Ordering.{eq_by_cmp}
+use Rattle.std.proofs.lemmas.Bool.{false_from_ne_true}
 use Rattle.mr_links.specs.LinkId.{id_cmp}
 use Rattle.mr_links.specs.declared.link_id.LinkId.{LinkId}
 use Rattle.mr_effect.specs.Spelling.{texts}
@@ -41,10 +42,6 @@ use Rattle.law_follower.proofs.Applying.{grown_none}
 up_down : (b : Bool) → b ≡ true → b ≡ false → ⊥
 up_down b p q = cc
 
-not_true : (b : Bool) → (b ≡ true → ⊥) → b ≡ false
-not_true true h = absurd (h refl)
-not_true false h = refl
-
 -- ---- a request that is served
 abbrev pub IsKept : Core → Core → Type 0
 IsKept c d = (d.lineage ≡ c.lineage) × (d.held ≡ c.held)
@@ -72,7 +69,7 @@ module _ (a b : NodeState) (l : LinkId) (before : IsFollowing a l) (behind : IsF
   nobody_no o none at = none_some l (sym (ap name_of none) ∙ at)
 
   replica_is : a.core.master ≡ false
-  replica_is = not_true a.core.master (λ m. nobody_no a.follow (before.sound.node.nobody m) before.at)
+  replica_is = false_from_ne_true a.core.master (λ m. nobody_no a.follow (before.sound.node.nobody m) before.at)
 
   same : b ≡ a → Rests a b
   same is = record { lineage = ap (λ (z : NodeState). z.core.lineage) is; held = ap (λ (z : NodeState). z.core.held) is; follow = ap (λ (z : NodeState). z.follow) is }

@@ -1,13 +1,8 @@
 -- A node's ends of its links, as a map.
-use Rattle.std.proofs.Common.{◌≡◌, ◌≢◌, ◌≤◌, ℕ, List, true, false, cond, Option, None, Some, length, refl, sym, ap, ◌∙◌, Bor, is_some, ◌⊎◌, inl, inr}
+use Rattle.std.proofs.Common.{◌≡◌, ◌≤◌, ℕ, List, true, false, Option, None, Some, length, refl, sym, ap, ◌∙◌, Bor, is_some, ◌⊎◌, inl, inr}
 use Rattle.std.specs.Option.{option_copied}
-use Rattle.std.specs.Ordering.{eq_by_cmp}
-use Rattle.std.specs.FinMap.{FinMap, get, insert, get-insert}
-use Rattle.std.proofs.lemmas.Cmp.{eq_by_cmp_equiv}
-use Rattle.std.proofs.lemmas.Map.Views.{tells_apart}
-use Rattle.mr_links.specs.LinkId.{id_cmp}
+pub use Rattle.std.proofs.lemmas.Option.{same_Some as some_is, none-some as none_some}
 use Rattle.mr_links.specs.declared.link_id.LinkId.{LinkId}
-use Rattle.mr_links.proofs.LinkRows.{ids_total, exact_ids}
 use Rattle.mr_node_links.specs.State.{EndState, Transaction, put_end, transaction_in, unread_in}
 use Rattle.mr_node_links.specs.State.EndState.{client, waiting, replica, upstream, shut}
 use Rattle.mr_node_links.specs.Ending.{kind_of, used_of}
@@ -15,26 +10,12 @@ use Rattle.mr_node_links.specs.declared.kind.Kind.{Kind}
 use Rattle.mr_node_links.specs.declared.kind.Kind.TheVariants as kind
 use Rattle.mr_node_links.specs.Parts.{HasAhead, HasOpen, IsClient, TakesOut, UsesAt}
 use Rattle.mr_node_links.specs.Replicas.{Lists}
+use Rattle.mr_node_links.proofs.Places.{get_other, get_put}
 use Rattle.mr_node_spec.specs.State.{IsNode, NodeState, end_of, Agrees, AgreesWithin, ReplicaAgrees}
 use Rattle.mr_node_spec.specs.Ends.{Leaves}
 use Rattle.mr_node_state.specs.Parts.{OnlyEnds, with_ends}
 use Rattle.mr_node.specs.Calls.{Agreeing, Unreads}
 use Rattle.mr_node.specs.Parts.{Uses}
-
-pub some_is : {A : Type 0} (x y : A) → ◌≡◌ {A = Option A} (Some x) (Some y) → x ≡ y
-some_is x y e = cc
-
-pub none_some : {A : Type 0} (x : A) → ◌≡◌ {A = Option A} None (Some x) → ⊥
-none_some x e = cc
-
-pub get_put : (m : FinMap id_cmp EndState) (l : LinkId) (e : EndState) → get (insert m l e) l ≡ Some e
-get_put m l e = get-insert ids_total m l e l ∙ ap (λ b. cond b (Some e) (get m l)) ((eq_by_cmp_equiv ids_total).refl l)
-
-pub get_other : (m : FinMap id_cmp EndState) (l : LinkId) (e : EndState) (q : LinkId) → q ≢ l → get (insert m l e) q ≡ get m q
-get_other m l e q ne = get-insert ids_total m l e q ∙ (elim (eq_by_cmp id_cmp q l) as (λ v. eq_by_cmp id_cmp q l ≡ v → cond v (Some e) (get m q) ≡ get m q) [
-  | true ↦ λ h. absurd (ne (tells_apart exact_ids q l h))
-  | false ↦ λ h. refl
-] refl)
 
 -- the node with another end of a link
 pub put_leaves : (a b : NodeState) (l : LinkId) (e : EndState) → b ≡ with_ends a (put_end a.ends l e) → Leaves a l b e

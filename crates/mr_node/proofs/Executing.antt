@@ -1,10 +1,11 @@
 -- Requests that waited are done one behind another, and their effects stand in the stream as one group.
-use Rattle.std.proofs.Common.{◌≡◌, ◌≢◌, ◌⊎◌, ◌+◌, ◌<◌, ◌≤◌, ◌++◌, ◌∷◌, ℕ, zero, suc, List, [], append-nil, append_assoc, drop, get_or, map, take, Global, Vec, Bool, true, false, Option, Some, length, not, refl, sym, ap, subst, ◌∙◌, inl, inr, arith}
+use Rattle.std.proofs.Common.{◌≡◌, ◌≢◌, ◌⊎◌, ◌+◌, ◌<◌, ◌≤◌, ◌++◌, ◌∷◌, ℕ, zero, suc, List, [], append-nil, append_assoc, drop, get_or, map, take, Global, Vec, Bool, true, false, Some, length, not, refl, sym, ap, subst, ◌∙◌, inl, inr, arith}
 use Rattle.std.specs.Prelude.{Result, Ok, Err}
 use Rattle.std.specs.List.{AllByRecursion}
-use Rattle.std.proofs.lemmas.List.{get_or-map, length-append, take-append-drop, take_more}
+use Rattle.std.proofs.lemmas.List.{drop_at, get_or-map, length-append, take-append-drop, take_at, take_more}
 use Rattle.std.proofs.lemmas.List.Concat.{flat_map-append}
 use Rattle.std.specs.FinMap.{FinMap}
+use Rattle.std.proofs.lemmas.Option.{same_Some}
 use Rattle.mr_links.specs.LinkId.{id_cmp}
 use Rattle.mr_links.specs.declared.link_id.LinkId.{LinkId}
 use Rattle.mr_resp.specs.Replies.{Tree, array, count_of, replies_text, reply_text}
@@ -19,7 +20,7 @@ use Rattle.mr_data.specs.declared.given.Given.{Given}
 use Rattle.mr_data.specs.Meaning.{apply_all}
 use Rattle.mr_repl.specs.Backlog.{offset_limit}
 use Rattle.mr_groups.specs.Groups.{exec, frame_for, grown_text, multi}
-use Rattle.mr_groups.proofs.Lengths.{as_many, grown_length}
+use Rattle.mr_groups.proofs.Lengths.{as_many, exec_length, grown_length, multi_length}
 use Rattle.mr_repl.specs.Lineage.{grown}
 use Rattle.mr_cmd_server.specs.declared.question.Question.{Question}
 use Rattle.mr_cmd_server.specs.declared.question.Question.TheVariants as question
@@ -38,15 +39,12 @@ use Rattle.mr_node_spec.specs.Growing.{FedTo}
 use Rattle.mr_node_spec.specs.Telling.{Around, IsAround, answer_about, link_of, role_answer}
 use Rattle.mr_node_spec.specs.Transactions.{WithinRow, as_trees, frame_of}
 use Rattle.mr_node_state.specs.Parts.{Holds, Spends, streams_on, with_ends}
-use Rattle.mr_node.specs.Executing.{AreDone, ClosesGroup, CountsDone, DidAll, DidOne, DoesEach, DoesOne, Executed, Executes, FedBy, GivesUp, IsTold, SaysOnly, SpentBy, StoppedWithin, holding, put_out}
+use Rattle.mr_node.specs.Executing.{AreDone, AreFramed, behind_frame, ClosesFrame, ClosesGroup, CountsDone, DidAll, DidOne, DoesEach, DoesOne, Executed, Executes, FedBy, GivesUp, IsTold, SaysOnly, SpentBy, StoppedWithin, holding, put_out}
 use Rattle.mr_node.specs.Parts.{TellsOf, Uses}
 use Rattle.mr_node.specs.Within.{Comes, IsAtOpen, StopsAtOpen, WithinStep}
 use Rattle.mr_node.specs.declared.fault.NodeFault.{NodeFault}
 use Rattle.mr_node.specs.declared.fault.NodeFault.TheVariants as fault
 use Rattle.mr_node.proofs.Transactions.{asks_at, comes_lack, of_run, taken_out}
-
-some_is : (m n : Dataset) → ◌≡◌ {A = Option Dataset} (Some m) (Some n) → m ≡ n
-some_is m n e = cc
 
 -- ---- replies
 pub said_more : (replies : List Tree) (reply : Tree) → replies_text (as_trees (one_more replies reply)) ≡ replies_text (as_trees replies) ++ reply_text reply
@@ -65,6 +63,13 @@ said_all replies count is = ap (λ (n : ℕ). 42 ∷ number_line n ++ replies_te
 -- ---- texts
 texts_more : (es fs : List Effect) → texts (es ++ fs) ≡ texts es ++ texts fs
 texts_more es fs = flat_map-append text es fs
+
+-- .. behind both parts of a frame
+behind_more : (es fs : List Effect) → behind_frame (es ++ fs) ≡ behind_frame es ++ texts fs
+behind_more es fs = ap (λ (z : List ℕ). (exec ++ multi) ++ z) (texts_more es fs) ∙ sym (append_assoc (exec ++ multi) (texts es) (texts fs))
+
+pub behind_length : (es : List Effect) → length (behind_frame es) ≡ 29 + length (texts es)
+behind_length es = omega (arith, length-append (exec ++ multi) (texts es), length-append exec multi, exec_length, multi_length)
 
 -- in a frame of so many bytes
 module _ (a : NodeState) (before over : List Effect) (frame : ℕ) (framed : frame ≡ frame_for (length (before ++ over))) where
@@ -93,7 +98,7 @@ module _ (a : NodeState) (given : Given) (words : List (List ℕ)) (before : Lis
   pub plain_reply : (reply : Tree) (es : List Effect) → es ≡ [] → IsPlain words → HasPlan (not a.core.master) m words given reply es → Does (frame_of a) (not a.core.master) given words before m reply [] m
   plain_reply reply es no_effect plain plan =
       let p = subst (λ (z : List Effect). HasPlan (not a.core.master) m words given reply z) no_effect plan in
-      Does.fits plain p fit_so (some_is m (left (not a.core.master) words given m) p.leads)
+      Does.fits plain p fit_so (same_Some m (left (not a.core.master) words given m) p.leads)
 
   pub passing : (reply : Tree) (over : List Effect) → IsPlain words → HasPlan (not a.core.master) m words given reply over → ((frame_of a).Fits (before ++ over) → ⊥) → Does (frame_of a) (not a.core.master) given words before m past_limit [] m
   passing reply over plain plan full = Does.passes plain reply over plan full refl refl refl
@@ -104,7 +109,7 @@ module _ (a : NodeState) (given : Given) (words : List (List ℕ)) (before : Lis
 
   did_nothing : (reply : Tree) (new : OutsState) → Does (frame_of a) (not a.core.master) given words before m reply [] m → new ≡ record old { reply = old.reply ++ reply_text reply } → DidOne a given words before m old 0 now new
   did_nothing reply new does is =
-      let same : texts before ≡ texts (before ++ []) = ap texts (sym (append-nil before)) in
+      let same : behind_frame before ≡ behind_frame (before ++ []) = ap behind_frame (sym (append-nil before)) in
       record {
         reply = reply;
         effects = [];
@@ -117,7 +122,7 @@ module _ (a : NodeState) (given : Given) (words : List (List ℕ)) (before : Lis
           appended = ap (λ (o : OutsState). o.appended) is ∙ (d.appended ∙ same);
         };
         counted = refl;
-        outs_are = said old new (old.reply ++ reply_text reply) (texts (before ++ [])) (d.grown ∙ same) (d.appended ∙ same) is;
+        outs_are = said old new (old.reply ++ reply_text reply) (behind_frame (before ++ [])) (d.grown ∙ same) (d.appended ∙ same) is;
       }
 
   pub says_so : (reply : Tree) (r : Result ℕ NodeFault) (new : OutsState) → Does (frame_of a) (not a.core.master) given words before m reply [] m → SaysOnly reply old r new → DoesOne a given words before m old now r now new
@@ -135,13 +140,13 @@ module _ (a : NodeState) (given : Given) (words : List (List ℕ)) (before : Lis
         let applied : apply_all over m ≡ Some h.held = subst (λ (z : NodeState). apply_all over z.core.held ≡ Some h.held) d.node h.applied in
         let there : new ≡ record old { grown = old.grown ++ texts over; appended = old.appended ++ texts over; reply = old.reply ++ reply_text reply } =
         says ∙ ap (λ (o : OutsState). record o { reply = o.reply ++ reply_text reply }) grows in
-        let grown : old.grown ++ texts over ≡ texts (before ++ over) = ap (λ (z : List ℕ). z ++ texts over) d.grown ∙ sym (texts_more before over) in
-        let appended : old.appended ++ texts over ≡ texts (before ++ over) = ap (λ (z : List ℕ). z ++ texts over) d.appended ∙ sym (texts_more before over) in
+        let grown : old.grown ++ texts over ≡ behind_frame (before ++ over) = ap (λ (z : List ℕ). z ++ texts over) d.grown ∙ sym (behind_more before over) in
+        let appended : old.appended ++ texts over ≡ behind_frame (before ++ over) = ap (λ (z : List ℕ). z ++ texts over) d.appended ∙ sym (behind_more before over) in
         record {
           reply = reply;
           effects = over;
           held = h.held;
-          does = Does.fits plain plan fits (some_is h.held (left (not a.core.master) words given m) (sym applied ∙ plan.leads));
+          does = Does.fits plain plan fits (same_Some h.held (left (not a.core.master) words given m) (sym applied ∙ plan.leads));
           are_done = record {
             node = h.node ∙ ap (λ (z : NodeState). record z { core = record z.core { held = h.held } }) d.node;
             fits = fits;
@@ -150,7 +155,7 @@ module _ (a : NodeState) (given : Given) (words : List (List ℕ)) (before : Lis
           };
           counted = is;
           outs_are = there ∙ (ap (λ (z : List ℕ). record old { grown = z; appended = old.appended ++ texts over; reply = old.reply ++ reply_text reply }) grown
-              ∙ ap (λ (z : List ℕ). record old { grown = texts (before ++ over); appended = z; reply = old.reply ++ reply_text reply }) appended);
+              ∙ ap (λ (z : List ℕ). record old { grown = behind_frame (before ++ over); appended = z; reply = old.reply ++ reply_text reply }) appended);
         }
 
     pub spent_by : (b : NodeState) → (AllByRecursion NeedsNoMemory over → ⊥) → Spends now over b → SpentBy a given words before m b
@@ -193,7 +198,7 @@ split_at xs i d its within is = sym (take-append-drop (i + 1) xs) ∙ (ap (λ z.
 
 -- ---- all of them
 module _ (a : NodeState) (given : Given) (old : OutsState) where
-  pub did_none : old.grown ≡ [] → old.appended ≡ [] → a.core.lineage.stream.offset ≤ offset_limit → DidAll a given [] old 0 a old
+  pub did_none : old.grown ≡ behind_frame [] → old.appended ≡ behind_frame [] → a.core.lineage.stream.offset ≤ offset_limit → DidAll a given [] old 0 a old
   did_none grown appended within = record {
     replies = [];
     effects = [];
@@ -206,8 +211,8 @@ module _ (a : NodeState) (given : Given) (old : OutsState) where
     where
       nothing_put : old ≡ put_out [] (old.reply ++ []) old
       nothing_put = ap (λ (z : List ℕ). record old { grown = z }) grown
-          ∙ (ap (λ (z : List ℕ). record old { grown = []; appended = z }) appended
-          ∙ ap (λ (z : List ℕ). record old { grown = []; appended = []; reply = z }) (sym (append-nil old.reply)))
+          ∙ (ap (λ (z : List ℕ). record old { grown = behind_frame []; appended = z }) appended
+          ∙ ap (λ (z : List ℕ). record old { grown = behind_frame []; appended = behind_frame []; reply = z }) (sym (append-nil old.reply)))
 
   pub did_more : (front : List (List ℕ)) (text : List ℕ) (words : List (List ℕ)) (count more : ℕ) (now b : NodeState) (mid new : OutsState) (d : DidAll a given front old count now mid) → IsRequest usual text words
       → DidOne a given words d.effects d.held mid more b new → DidAll a given (front ++ text ∷ []) old (count + more) b new
@@ -247,8 +252,8 @@ module _ (a : NodeState) (given : Given) (old : OutsState) where
   some_counted (e ∷ es) n is none = cc
 
   -- memory ran out behind these
-  stops_behind : (front rest requests : List (List ℕ)) (count : ℕ) (now b : NodeState) (mid : OutsState) → requests ≡ front ++ rest → DidAll a given front old (suc count) now mid → b ≡ stopped_as now → StoppedWithin a given requests b
-  stops_behind front rest requests count now b mid is d stopped = record {
+  stops_behind : (front rest requests : List (List ℕ)) (count : ℕ) (now b : NodeState) (mid : OutsState) → requests ≡ front ++ rest → (rest ≡ [] → ⊥) → DidAll a given front old (suc count) now mid → b ≡ stopped_as now → StoppedWithin a given requests b
+  stops_behind front rest requests count now b mid is behind d stopped = record {
     done_first = front;
     left = rest;
     first = is;
@@ -257,6 +262,7 @@ module _ (a : NodeState) (given : Given) (old : OutsState) where
     before = d.held;
     does = d.does;
     some = inl (some_counted d.effects count d.counted);
+    undone = behind;
     held = d.held;
     spent = stopped ∙ ap stopped_as d.are_done.node;
   }
@@ -272,6 +278,7 @@ module _ (a : NodeState) (given : Given) (old : OutsState) where
     effects = d.effects;
     before = d.held;
     does = d.does;
+    undone = λ none. cc;
     some = inr (record { text = text; later = later; first = refl; words = words; request = asks; plain = s.plain; reply = s.reply; effects = s.effects; plan = s.plan; fits = s.fits; heavy = s.heavy });
     held = s.held;
     spent = same ∙ s.spent;
@@ -283,7 +290,7 @@ module _ (a : NodeState) (given : Given) (old : OutsState) where
   gives_up front later requests text words zero fault.Memory told now mid_node b mid new last is asks d one g =
       subst (λ (z : NodeFault). DoesEach a given requests old (Err z) b last) (sym g.1) (g.0 ∙ (one ∙ unchanged front now mid d))
   gives_up front later requests text words (suc count) fault.Memory told now mid_node b mid new last is asks d one g =
-      subst (λ (z : NodeFault). DoesEach a given requests old (Err z) b last) (sym g.1) (stops_behind front (text ∷ later) requests count now b mid is d (g.0 ∙ ap stopped_as one))
+      subst (λ (z : NodeFault). DoesEach a given requests old (Err z) b last) (sym g.1) (stops_behind front (text ∷ later) requests count now b mid is (λ none. cc) d (g.0 ∙ ap stopped_as one))
   gives_up front later requests text words count fault.Stopped told now mid_node b mid new last is asks d one g =
       subst (λ (z : NodeFault). DoesEach a given requests old (Err z) b last) (sym g.1) (stops_in front later requests text words count now mid_node b mid is asks d one g.0)
   gives_up front later requests text words count fault.NoLink told now mid_node b mid new last is asks d one g = absurd one
@@ -301,37 +308,52 @@ framed_text [] is = absurd (omega (arith, is))
 framed_text (e ∷ []) is = absurd (omega (arith, is))
 framed_text (e ∷ f ∷ es) is = refl
 
-module _ (a : NodeState) (es : List Effect) (m : Dataset) (now b : NodeState) (old new : OutsState) (d : AreDone a es m now old) where
-  abbrev Closed : Type 0
-  Closed = (b ≡ streams_on (grown_text es) now) × (new ≡ record old { grown = grown_text es; appended = grown_text es; fed = new.fed }) × FedBy es old.fed new.fed
+-- without the frame in front of them, and with its end behind them
+dropped_front : (es : List Effect) → drop 29 (behind_frame es) ≡ texts es
+dropped_front es = drop_at (exec ++ multi) (texts es) 29 (omega (arith, length-append exec multi, exec_length, multi_length))
 
-  closed : (g : List ℕ) (f : List LinkId) → g ≡ grown_text es → new ≡ record old { grown = g; appended = g; fed = f } → b ≡ streams_on new.grown now → FedBy es old.fed f → Closed
-  closed g f is put grows fed = (
-    grows ∙ ap (λ (z : List ℕ). streams_on z now) (ap (λ (o : OutsState). o.grown) put ∙ is),
-    put ∙ (ap (λ (z : List ℕ). record old { grown = z; appended = z; fed = f }) is ∙ ap (λ (z : List LinkId). record old { grown = grown_text es; appended = grown_text es; fed = z }) (sym (ap (λ (o : OutsState). o.fed) put))),
-    subst (λ (z : List LinkId). FedBy es old.fed z) (sym (ap (λ (o : OutsState). o.fed) put)) fed,
-  )
+turned_front : (es : List Effect) → drop 14 (behind_frame es) ++ take 14 (behind_frame es) ≡ multi ++ (texts es ++ exec)
+turned_front es =
+    let whole : behind_frame es ≡ exec ++ (multi ++ texts es) = append_assoc exec multi (texts es) in
+    ap (λ (z : List ℕ). drop 14 z ++ take 14 z) whole
+    ∙ (ap (λ (z : List ℕ). z ++ take 14 (exec ++ (multi ++ texts es))) (drop_at exec (multi ++ texts es) 14 exec_length)
+    ∙ (ap (λ (z : List ℕ). (multi ++ texts es) ++ z) (take_at exec (multi ++ texts es) 14 exec_length) ∙ append_assoc multi (texts es) exec))
 
-  stays_put : (f : List LinkId) → new ≡ record old { fed = f } → new ≡ record old { grown = texts es; appended = texts es; fed = f }
-  stays_put f is = is ∙ (ap (λ (z : List ℕ). record old { grown = z; appended = old.appended; fed = f }) d.grown ∙ ap (λ (z : List ℕ). record old { grown = texts es; appended = z; fed = f }) d.appended)
+module _ (es : List Effect) (count : ℕ) (old new : OutsState) (d : AreFramed count es old) where
+  closed : (g : List ℕ) (f : List LinkId) → g ≡ grown_text es → new ≡ record old { grown = g; appended = g; fed = f } → FedBy es old.fed f → ClosesFrame es old new
+  closed g f is put fed = record {
+    outs_are = put ∙ (ap (λ (z : List ℕ). record old { grown = z; appended = z; fed = f }) is ∙ ap (λ (z : List LinkId). record old { grown = grown_text es; appended = grown_text es; fed = z }) (sym (ap (λ (o : OutsState). o.fed) put)));
+    fed = subst (λ (z : List LinkId). FedBy es old.fed z) (sym (ap (λ (o : OutsState). o.fed) put)) fed;
+  }
+
+  bare : drop 29 old.grown ≡ texts es
+  bare = ap (λ (z : List ℕ). drop 29 z) d.grown ∙ dropped_front es
 
   -- none
-  pub closes_none : es ≡ [] → new ≡ record old { fed = [] } → b ≡ streams_on new.grown now → Closed
-  closes_none none is grows =
-      closed (texts es) [] (lone_text es (subst (λ (z : List Effect). length z ≤ 1) (sym none) (omega arith))) (stays_put [] is) grows (subst (λ (z : List Effect). FedBy z old.fed []) (sym none) refl)
+  pub closes_none : count ≡ 0 → new ≡ record old { grown = drop 29 old.grown; appended = drop 29 old.grown; fed = [] } → ClosesFrame es old new
+  closes_none none put =
+      let few : length es ≤ 1 = omega (arith, none, d.counted) in
+      closed (drop 29 old.grown) [] (bare ∙ lone_text es few) put (fed_none es (sym d.counted ∙ none))
+    where
+      fed_none : (xs : List Effect) → length xs ≡ 0 → FedBy xs old.fed []
+      fed_none [] k = refl
+      fed_none (x ∷ xs) k = absurd (omega (arith, k))
 
   -- one
-  pub closes_one : 1 ≡ length es → new ≡ old → b ≡ streams_on new.grown now → Closed
-  closes_one one is grows = closed (texts es) old.fed (lone_text es (omega (arith, one))) (stays_put old.fed is) grows (fed_still es one)
+  pub closes_one : count ≡ 1 → new ≡ record old { grown = drop 29 old.grown; appended = drop 29 old.grown } → ClosesFrame es old new
+  closes_one one put =
+      let few : length es ≤ 1 = omega (arith, one, d.counted) in
+      closed (drop 29 old.grown) old.fed (bare ∙ lone_text es few) put (fed_still es (sym d.counted ∙ one))
     where
-      fed_still : (xs : List Effect) → 1 ≡ length xs → FedBy xs old.fed old.fed
+      fed_still : (xs : List Effect) → length xs ≡ 1 → FedBy xs old.fed old.fed
       fed_still [] k = absurd (omega (arith, k))
       fed_still (x ∷ xs) k = refl
 
   -- several
-  pub closes_several : 1 < length es → new ≡ record old { grown = multi ++ (old.grown ++ exec); appended = multi ++ (old.grown ++ exec) } → b ≡ streams_on new.grown now → Closed
-  closes_several some is grows =
-      closed (multi ++ (old.grown ++ exec)) old.fed (ap (λ (z : List ℕ). multi ++ (z ++ exec)) d.grown ∙ framed_text es some) is grows (fed_still es some)
+  pub closes_several : 1 < count → new ≡ record old { grown = drop 14 old.grown ++ take 14 old.grown; appended = drop 14 old.grown ++ take 14 old.grown } → ClosesFrame es old new
+  closes_several some put =
+      let many : 1 < length es = omega (arith, some, d.counted) in
+      closed (drop 14 old.grown ++ take 14 old.grown) old.fed (ap (λ (z : List ℕ). drop 14 z ++ take 14 z) d.grown ∙ (turned_front es ∙ framed_text es many)) put (fed_still es many)
     where
       fed_still : (xs : List Effect) → 1 < length xs → FedBy xs old.fed old.fed
       fed_still [] k = absurd (omega (arith, k))
@@ -346,12 +368,12 @@ fed_to (e ∷ f ∷ es) a names fed listed by = subst (λ (z : List LinkId). Lis
 
 -- ---- what waited, done
 module _ (a : NodeState) (given : Given) (requests : List (List ℕ)) (old : OutsState) (names : List LinkId) (listed : Lists names a.ends.open_links) (reply : old.reply ≡ []) where
-  -- the replicas are named, and the count of the replies stands in front
+  -- the replicas are named, a frame has its room, and the count of the replies stands in front
   abbrev pub headed : ℕ → OutsState
-  headed count = record old { fed = names; reply = old.reply ++ 42 ∷ number_line count }
+  headed count = record old { grown = behind_frame []; appended = behind_frame []; fed = names; reply = old.reply ++ 42 ∷ number_line count }
 
   pub executed : (count : ℕ) (now b : NodeState) (mid new : OutsState) (d : DidAll a given requests (headed (length requests)) count now mid)
-      → (b ≡ streams_on (grown_text d.effects) now) × (new ≡ record mid { grown = grown_text d.effects; appended = grown_text d.effects; fed = new.fed }) × FedBy d.effects mid.fed new.fed → Executed a given requests old b new
+      → ClosesGroup d.effects now mid b new → Executed a given requests old b new
   executed count now b mid new d c =
       let many : length requests ≡ length d.replies = sym (replied (frame_of a) (not a.core.master) given requests [] a.core.held d.held d.replies d.effects d.does) in
       let said : (old.reply ++ 42 ∷ number_line (length requests)) ++ replies_text (as_trees d.replies) ≡ reply_text (array (as_trees d.replies)) =
@@ -362,37 +384,14 @@ module _ (a : NodeState) (given : Given) (requests : List (List ℕ)) (old : Out
         effects = d.effects;
         held = d.held;
         does = d.does;
-        node = c.0 ∙ ap (streams_on g) d.are_done.node;
-        fed = fed_to d.effects a names new.fed listed (subst (λ (z : List LinkId). FedBy d.effects z new.fed) (ap (λ (o : OutsState). o.fed) d.outs_are) c.2);
-        outs_are = c.1 ∙ (ap (λ (o : OutsState). record o { grown = g; appended = g; fed = new.fed }) d.outs_are
+        node = c.node ∙ ap (streams_on g) d.are_done.node;
+        fed = fed_to d.effects a names new.fed listed (subst (λ (z : List LinkId). FedBy d.effects z new.fed) (ap (λ (o : OutsState). o.fed) d.outs_are) c.frame.fed);
+        outs_are = c.frame.outs_are ∙ (ap (λ (o : OutsState). record o { grown = g; appended = g; fed = new.fed }) d.outs_are
             ∙ ap (λ (z : List ℕ). record old { grown = g; appended = g; fed = new.fed; reply = z }) said);
       }
 
--- .. or memory was lacking for their frame
-pub stopped_framing : (a : NodeState) (given : Given) (requests : List (List ℕ)) (old mid : OutsState) (count : ℕ) (now b : NodeState) (d : DidAll a given requests old count now mid) → d.effects ≢ [] → b ≡ stopped_as now → StoppedWithin a given requests b
-stopped_framing a given requests old mid count now b d some is = record {
-  done_first = requests;
-  left = [];
-  first = sym (append-nil requests);
-  replies = d.replies;
-  effects = d.effects;
-  before = d.held;
-  does = d.does;
-  some = inl some;
-  held = d.held;
-  spent = is ∙ ap stopped_as d.are_done.node;
-}
-
--- all of them, or what was lacking
-module _ (a : NodeState) (given : Given) (requests : List (List ℕ)) (old : OutsState) (names : List LinkId) (listed : Lists names a.ends.open_links) (reply : old.reply ≡ []) where
-  pub closes_all : (count : ℕ) (now b : NodeState) (mid new : OutsState) (r : Result (Unit {0}) NodeFault) (d : DidAll a given requests (headed a given requests old names listed reply (length requests)) count now mid)
-      → ClosesGroup d.effects now mid r b new → Executes a given requests old r b new
-  closes_all count now b mid new (Ok done) d c = executed a given requests old names listed reply count now b mid new d c
-  closes_all count now b mid new (Err fault.Stopped) d c = stopped_framing a given requests (headed a given requests old names listed reply (length requests)) mid count now b d c.0 c.1
-  closes_all count now b mid new (Err fault.Memory) d c = absurd c
-  closes_all count now b mid new (Err fault.NoLink) d c = absurd c
-  closes_all count now b mid new (Err fault.InputFull) d c = absurd c
-
+-- what was lacking
+module _ (a : NodeState) (given : Given) (requests : List (List ℕ)) (old : OutsState) where
   pub gives_each : (first last new : OutsState) (b : NodeState) (f : NodeFault) → DoesEach a given requests first (Err f) b last → Executes a given requests old (Err f) b new
   gives_each first last new b fault.Memory e = e
   gives_each first last new b fault.Stopped e = e
@@ -495,6 +494,7 @@ module _ (a : NodeState) (l : LinkId) (t : Transaction) (u : List ℕ) (given : 
       held = s.before;
       does = do_so (frame_of without_it) (frame_of a) (not a.core.master) given (λ es h. h) (λ es h. h) told_before s.done_first [] a.core.held s.before s.replies s.effects s.does;
       some = had s.some;
+      undone = s.undone;
     };
     held = s.held;
     spent = is ∙ (ap (λ (z : NodeState). with_ends z (put_end z.ends l (waiting t u))) s.spent ∙ ap (λ z. with_ends (spent_as s.held a) z) again);

@@ -44,7 +44,7 @@ use Rattle.mr_node_spec.specs.State.{NodeState}
 use Rattle.mr_node.specs.Executing.{IsTold, IsWaited, MayNotWait}
 use Rattle.mr_node.specs.declared.waited.Waited.{Waited}
 use Rattle.mr_node.specs.declared.waited.Waited.TheVariants as waited
-use Rattle.mr_node.specs.Reading.{KeepsAlong, IsDone, IsTodo, Reads, carry_out}
+use Rattle.mr_node.specs.Reading.{IsAnswered, IsAnsweredAt, KeepsAlong, IsDone, IsTodo, Reads}
 use Rattle.mr_node.specs.declared.todo.Todo.{Todo}
 use Rattle.mr_node.specs.declared.todo.Todo.TheVariants as todo
 
@@ -79,10 +79,9 @@ in_any_case (Err e) P h = h
 ok_is : (a b : Ask) → ◌≡◌ {A = Result Ask AskFault} (Ok a) (Ok b) → a ≡ b
 ok_is a b e = cc
 
-pub answer_done : (replica : Bool) (words : List (List ℕ)) (given : Given) (m : Dataset) (a : Ask) (x : Answer) (n : ℕ) → asked words ≡ Ok a → ((wish : NodeAsk) → a ≡ ask.Node wish → ⊥)
-    → IsAnswerTo replica a given m x → Leads x m (left_by (Ok a) replica given m) → HasTexts x → IsDone replica words n given m (carry_out x n)
-answer_done replica words given m a (answer.Run plan) n is other answers leads sent = (
-  refl,
+pub answer_done : (replica : Bool) (words : List (List ℕ)) (given : Given) (m : Dataset) (a : Ask) (x : Answer) → asked words ≡ Ok a → ((wish : NodeAsk) → a ≡ ask.Node wish → ⊥)
+    → IsAnswerTo replica a given m x → Leads x m (left_by (Ok a) replica given m) → HasTexts x → IsAnswered replica words given m x
+answer_done replica words given m a (answer.Run plan) is other answers leads sent = (
   record {
     keeps_file = ap rewriting_by is ∙ answers.1;
     runs_on = ap halting_by is ∙ answers.2;
@@ -97,25 +96,28 @@ answer_done replica words given m a (answer.Run plan) n is other answers leads s
     short = sent.short;
   },
 )
-answer_done replica words given m a answer.Quit n is other answers leads sent = ap closes is ∙ answers
-answer_done replica words given m a answer.Rewrite n is other answers leads sent = (refl, ap rewriting_by is ∙ answers)
-answer_done replica words given m a (answer.Tell question) n is other answers leads sent = (refl, ap question_by is ∙ answers)
-answer_done replica words given m a answer.Halt n is other answers leads sent = (refl, ap halting_by is ∙ answers)
+answer_done replica words given m a answer.Quit is other answers leads sent = ap closes is ∙ answers
+answer_done replica words given m a answer.Rewrite is other answers leads sent = ap rewriting_by is ∙ answers
+answer_done replica words given m a (answer.Tell question) is other answers leads sent = ap question_by is ∙ answers
+answer_done replica words given m a answer.Halt is other answers leads sent = ap halting_by is ∙ answers
 
 -- .. from words to unread bytes
 reads_at : (words : List (List ℕ)) (u : List ℕ) (n used : ℕ) → used ≡ n → n ≤ length u → Asks u words (drop n u) → Reads u used words
 reads_at words u n used same enough asks = subst (λ z. Reads u z words) (sym same) (record { enough = enough; asks = asks })
 
+answered_at : (replica : Bool) (words : List (List ℕ)) (u : List ℕ) (n used : ℕ) (given : Given) (m : Dataset) (x : Answer) → used ≡ n → n ≤ length u → Asks u words (drop n u) → IsAnswered replica words given m x → IsAnsweredAt replica u given m used x
+answered_at replica words u n used given m (answer.Run plan) same enough asks d = record { words = words; reads = reads_at words u n used same enough asks; plain = d.0; plan = d.1 }
+answered_at replica words u n used given m answer.Quit same enough asks d = record { words = words; rest = drop n u; asks = asks; quit = d }
+answered_at replica words u n used given m answer.Rewrite same enough asks d = record { words = words; reads = reads_at words u n used same enough asks; rewriting = d }
+answered_at replica words u n used given m (answer.Tell question) same enough asks d = record { words = words; reads = reads_at words u n used same enough asks; asked = d }
+answered_at replica words u n used given m answer.Halt same enough asks d = record { words = words; reads = reads_at words u n used same enough asks; halting = d }
+
 pub done_todo : (replica : Bool) (words : List (List ℕ)) (u : List ℕ) (n : ℕ) (given : Given) (m : Dataset) (t : Todo) → n ≤ length u → Asks u words (drop n u) → IsDone replica words n given m t → IsTodo replica u given m t
 done_todo replica words u n given m (todo.Wait progress) enough asks d = absurd d
 done_todo replica words u n given m (todo.Skip used) enough asks d = absurd d
 done_todo replica words u n given m (todo.Refuse fault) enough asks d = absurd d
-done_todo replica words u n given m todo.Quit enough asks d = record { words = words; rest = drop n u; asks = asks; quit = d }
-done_todo replica words u n given m (todo.Rewrite used) enough asks d = record { words = words; reads = reads_at words u n used (d.0) enough asks; rewriting = d.1 }
-done_todo replica words u n given m (todo.Tell used question) enough asks d = record { words = words; reads = reads_at words u n used (d.0) enough asks; asked = d.1 }
-done_todo replica words u n given m (todo.Halt used) enough asks d = record { words = words; reads = reads_at words u n used (d.0) enough asks; halting = d.1 }
-done_todo replica words u n given m (todo.Run used plan) enough asks d = record { words = words; reads = reads_at words u n used (d.0) enough asks; plain = d.1; plan = d.2 }
 done_todo replica words u n given m (todo.Ask used request) enough asks d = (d.1, record { words = words; reads = reads_at words u n used (d.0) enough asks; asks = d.2 }, d.3)
+done_todo replica words u n given m (todo.Do used x) enough asks d = answered_at replica words u n used given m x d.0 enough asks d.1
 
 -- .. where memory wasn't lacking
 pub done_all : {E : Type 0} (r : Result Todo E) (replica : Bool) (words : List (List ℕ)) (u : List ℕ) (n : ℕ) (given : Given) (m : Dataset) → n ≤ length u → Asks u words (drop n u) → IfOk r (λ t. IsDone replica words n given m t) → IfOk r (λ t. IsTodo replica u given m t)
@@ -130,33 +132,21 @@ found_as replica u given m t s is h = subst (λ z. IsTodo replica u given m z ×
 true_false : (b : Bool) → b ≡ true → b ≡ false → ⊥
 true_false b p q = let wrong : true ≡ false = sym p ∙ q in cc
 
--- neither carried out nor a question
-abbrev pub IsOther : Todo → Type 0
-IsOther (todo.Run used plan) = ⊥
-IsOther (todo.Tell used question) = ⊥
-IsOther _ = Unit {0}
+-- words that are answered neither by a plan nor by what the node says of itself
+pub answer_may_not_wait : (replica : Bool) (words : List (List ℕ)) (given : Given) (m : Dataset) (x : Answer) → ((plan : Plan) → x ≡ answer.Run plan → ⊥) → ((question : Question) → x ≡ answer.Tell question → ⊥) → IsAnswered replica words given m x → MayNotWait words
+answer_may_not_wait replica words given m (answer.Run plan) run tell d = absurd (run plan refl)
+answer_may_not_wait replica words given m answer.Quit run tell d = record { refused = λ plain goes. true_false (quits words) d goes; asks_data = quit_asks_nothing words d }
+answer_may_not_wait replica words given m answer.Rewrite run tell d = record { refused = λ plain goes. true_false (rewrites words) d plain.keeps_file; asks_data = rewriting_asks_nothing words d }
+answer_may_not_wait replica words given m (answer.Tell question) run tell d = absurd (tell question refl)
+answer_may_not_wait replica words given m answer.Halt run tell d = record { refused = λ plain goes. true_false (halts words) d plain.runs_on; asks_data = halting_asks_nothing words d }
 
-pub may_not_wait : (replica : Bool) (words : List (List ℕ)) (n : ℕ) (given : Given) (m : Dataset) (t : Todo) → IsOther t → IsDone replica words n given m t → MayNotWait words
-may_not_wait replica words n given m (todo.Wait progress) other d = absurd d
-may_not_wait replica words n given m (todo.Skip used) other d = absurd d
-may_not_wait replica words n given m (todo.Refuse fault) other d = absurd d
-may_not_wait replica words n given m todo.Quit other d = record { refused = λ plain goes. true_false (quits words) d goes; asks_data = quit_asks_nothing words d }
-may_not_wait replica words n given m (todo.Rewrite used) other d = record { refused = λ plain goes. true_false (rewrites words) d.1 plain.keeps_file; asks_data = rewriting_asks_nothing words d.1 }
-may_not_wait replica words n given m (todo.Tell used question) other d = absurd other
-may_not_wait replica words n given m (todo.Halt used) other d = record { refused = λ plain goes. true_false (halts words) d.1 plain.runs_on; asks_data = halting_asks_nothing words d.1 }
-may_not_wait replica words n given m (todo.Run used plan) other d = absurd other
-may_not_wait replica words n given m (todo.Ask used request) other d = record { refused = λ plain goes. plain.asks_no_node d.1 d.2; asks_data = ap question_by d.2 }
-
-pub is_other : (t : Todo) → ((used : ℕ) (plan : Plan) → t ≡ todo.Run used plan → ⊥) → ((used : ℕ) (question : Question) → t ≡ todo.Tell used question → ⊥) → IsOther t
-is_other (todo.Wait progress) run tell = tt
-is_other (todo.Skip used) run tell = tt
-is_other (todo.Refuse fault) run tell = tt
-is_other todo.Quit run tell = tt
-is_other (todo.Rewrite used) run tell = tt
-is_other (todo.Tell used question) run tell = tell used question refl
-is_other (todo.Halt used) run tell = tt
-is_other (todo.Run used plan) run tell = run used plan refl
-is_other (todo.Ask used request) run tell = tt
+-- .. that ask something of the node itself
+pub wish_may_not_wait : (replica : Bool) (words : List (List ℕ)) (n : ℕ) (given : Given) (m : Dataset) (t : Todo) → ((used : ℕ) (x : Answer) → t ≡ todo.Do used x → ⊥) → IsDone replica words n given m t → MayNotWait words
+wish_may_not_wait replica words n given m (todo.Wait progress) other d = absurd d
+wish_may_not_wait replica words n given m (todo.Skip used) other d = absurd d
+wish_may_not_wait replica words n given m (todo.Refuse fault) other d = absurd d
+wish_may_not_wait replica words n given m (todo.Ask used request) other d = record { refused = λ plain goes. plain.asks_no_node d.1 d.2; asks_data = ap question_by d.2 }
+wish_may_not_wait replica words n given m (todo.Do used x) other d = absurd (other used x refl)
 
 -- ---- a request's text, read again
 pub must_be_whole : (request : List ℕ) (s : Scan) → CanWait request → scans.Reads usual request s → ((words : Vec (CowSlice ℕ Global) Global) (used : ℕ) → s ≡ scan.Whole words used → ⊥) → ⊥

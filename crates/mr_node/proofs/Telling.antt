@@ -1,6 +1,6 @@
 -- What a node tells of itself.
 use Rattle.std.proofs.Common.{Vec, Global, ◌≡◌, ℕ, List, [], Bool, true, false, not, length, Option, refl, sym, ap, subst, ◌∙◌}
-use Rattle.std.specs.Prelude.{Result, Ok, Err, IfOk, if◌then◌else◌}
+use Rattle.std.specs.Prelude.{if◌then◌else◌}
 use Rattle.std.proofs.lemmas.List.{length-map}
 use Rattle.mr_links.specs.declared.link_id.LinkId.{LinkId}
 use Rattle.mr_resp.specs.Replies.{Tree, bytes}
@@ -19,11 +19,6 @@ use Rattle.mr_node_spec.specs.State.{NodeState}
 use Rattle.mr_node_spec.specs.Telling.{answer_about, host_of, link_of, port_of, role_answer}
 use Rattle.mr_node.specs.Parts.{ListsReplicas, TellsInfo, TellsOf}
 use Rattle.mr_node.proofs.Rows.{around_of, is_around_of, nobody}
-
--- what is true of a result is true of it by another word
-pub if_ok_map : {T E : Type 0} {P Q : T → Type 0} (r : Result T E) → ((x : T) → P x → Q x) → IfOk r P → IfOk r Q
-if_ok_map (Ok x) f p = f x p
-if_ok_map (Err y) f p = tt
 
 bulk_is : (v : Vec ℕ Global) → view (Bulk v) ≡ bytes v.items
 bulk_is v = ap view (sym (rolls-Bulk v)) ∙ fold-roll-Reply Tree view_step (Reply-F.Bulk v)

@@ -1,8 +1,8 @@
 -- What a tick writes.
-use Rattle.std.proofs.Common.{ℕ, ◌≤◌, ◌+◌, ◌-◌, ◌≡◌, ℤ, ◌<◌, List, [], ◌∷◌, ◌++◌, append_assoc, append-nil, length, length-append, map, take, true, false, Option, Some, None, cond, Vec, Global, refl, sym, ◌∙◌, ap, subst, arith}
-use Rattle.std.specs.Prelude.{IsTrue, IsOk, All, Bool, Result, Err, is_ok, nat_le, nat_eq, ◌==◌, if◌then◌else◌}
+use Rattle.std.proofs.Common.{ℕ, ◌≤◌, ◌+◌, ◌-◌, ◌≡◌, ◌≢◌, ℤ, ◌<◌, List, [], ◌∷◌, ◌++◌, append_assoc, append-nil, length, length-append, map, take, true, false, Option, Some, None, cond, Vec, Global, refl, sym, ◌∙◌, ap, subst, arith}
+use Rattle.std.specs.Prelude.{IsTrue, IsOk, All, Bool, Result, Err, is_ok, slice_get, nat_le, nat_eq, ◌==◌, if◌then◌else◌}
 use Rattle.std.specs.List.{AllByRecursion}
-use Rattle.std.specs.Option.{option_and_then}
+use Rattle.std.specs.Option.{option_and_then, option_map}
 use Rattle.std.specs.FinMap.{remove}
 use Rattle.std.proofs.lemmas.Bool.{leb-true, leb-false, le-leb, lt-leb, eqb-true, eqb-false, true≢false}
 use Rattle.std.proofs.lemmas.Cmp.{eq_by_cmp_equiv}
@@ -20,13 +20,13 @@ use Rattle.mr_keyspace.specs.Dataset.{Dataset}
 use Rattle.mr_keyspace.specs.Changes.{change, NeedsNoMemory}
 use Rattle.mr_data.specs.Meaning.{apply, apply_all}
 use Rattle.mr_data.specs.declared.due.DueKey.{DueKey}
-use Rattle.mr_data.specs.Due.{due, deletions, most_deleted, shown, HasWord, within}
+use Rattle.mr_data.specs.Due.{due, deletions, most_deleted, dated, HasWord, within}
 use Rattle.mr_repl.specs.Backlog.{offset_limit}
 use Rattle.mr_node_links.specs.Replicas.{Lists, is_named}
 use Rattle.mr_node_output.specs.Outs.{OutsState, no_outs}
 use Rattle.mr_node_spec.specs.State.{NodeState}
 use Rattle.mr_node_spec.specs.Growing.{FedTo, grown_by}
-use Rattle.mr_node_spec.specs.TimeRows.{Beats, HasReplicas, TickRow, room_in}
+use Rattle.mr_node_spec.specs.TimeRows.{Beats, HasDue, HasReplicas, TickRow, room_in}
 use Rattle.mr_node_spec.specs.TimeRows as time
 use Rattle.mr_node_state.specs.Parts.{Commits}
 use Rattle.mr_node.specs.Parts.{FeedsAll}
@@ -40,7 +40,7 @@ one_goes : (k : Bytes) (m : Dataset) → IsTrue (fits k) → apply (effect.Del k
 unfolding apply change
 one_goes k m fit = ap (λ b. if b then Some (remove m k) else None) fit
 
-beat_goes : (m : Dataset) → apply effect.Ping m ≡ Some m
+pub beat_goes : (m : Dataset) → apply effect.Ping m ≡ Some m
 unfolding apply change
 beat_goes m = refl
 
@@ -75,10 +75,10 @@ pub record Growing (room : ℕ) (all : List Effect) (effects : List Effect) (res
   pub light : All IsLight effects
   pub words : All HasWord rest
 
-pub all_deletions : (ps : List (Bytes × ℤ)) (ds : List DueKey) → map shown ds ≡ ps → map (λ p. effect.Del p.0) ps ≡ deletions_of ds
+pub all_deletions : (ps : List (Bytes × ℤ)) (ds : List DueKey) → map dated ds ≡ ps → map (λ p. effect.Del p.0) ps ≡ deletions_of ds
 all_deletions ps ds h = ap (map (λ p. effect.Del p.0)) (sym h) ∙ one_map ds
   where
-    one_map : (ds : List DueKey) → map (λ p. effect.Del p.0) (map shown ds) ≡ deletions_of ds
+    one_map : (ds : List DueKey) → map (λ p. effect.Del p.0) (map dated ds) ≡ deletions_of ds
     one_map [] = refl
     one_map (d ∷ ds) = ap (λ (es : List Effect). effect.Del d.key.now ∷ es) (one_map ds)
 
@@ -208,7 +208,7 @@ less : (n m : ℕ) → n ≤ m → (n ≡ m → ⊥) → n < m
 less n m few apart = omega (arith, few, apart)
 
 -- the keys that are due, told with whether all have room
-pub doomed_of : (m : Dataset) (now : ℤ) (room : ℕ) (dues : List DueKey) (d : Deletions) (outs : OutsState) → map shown dues ≡ take most_deleted (due now m) → Fitting room dues d.effects.items outs
+pub doomed_of : (m : Dataset) (now : ℤ) (room : ℕ) (dues : List DueKey) (d : Deletions) (outs : OutsState) → map dated dues ≡ take most_deleted (due now m) → Fitting room dues d.effects.items outs
     → d.whole ≡ nat_eq (length d.effects.items) (length dues) → Doomed m now room d outs
 doomed_of m now room dues d outs keys fit test =
     let all : time.doomed now m ≡ deletions_of dues = all_deletions (take most_deleted (due now m)) dues keys in
@@ -355,3 +355,54 @@ ticks a b c now told outs mark up master put commits is mark_is =
 -- what went well did not fail
 pub never_lacks : {E : Type 0} (r : Result (Unit {0}) E) (x : E) → r ≡ Err x → IsOk r → ⊥
 never_lacks r x lacks ok = true≢false (sym ok ∙ ap is_ok lacks)
+
+-- ---- what memory is taken for
+-- none is the first where none is due, and only there
+pub none_first : (ps : List (Bytes × ℤ)) → option_map (λ (p : Bytes × ℤ). p.0) (slice_get ps 0) ≡ None → ps ≡ []
+none_first [] none = refl
+none_first (p ∷ ps) none = cc
+
+pub some_first : (ps : List (Bytes × ℤ)) → (option_map (λ (p : Bytes × ℤ). p.0) (slice_get ps 0) ≡ None → ⊥) → ps ≢ []
+some_first [] some none = some refl
+some_first (p ∷ ps) some none = cc
+
+-- no key is due
+pub none_doomed : (m : Dataset) (now : ℤ) (room : ℕ) (d : Deletions) (outs : OutsState) → due now m ≡ [] → d.effects.items ≡ [] → d.whole ≡ true → outs ≡ no_outs → Doomed m now room d outs
+none_doomed m now room d outs none empty so outs_are =
+    let all : time.doomed now m ≡ [] = ap (λ (ps : List (Bytes × ℤ)). map (λ p. effect.Del p.0) (take most_deleted ps)) none in
+    let gone : deletions now m room ≡ [] = ap (within room) all in
+    record {
+      effects = empty ∙ sym gone;
+      light = subst (All IsLight) (sym empty) (All-nil IsLight);
+      whole = λ is. gone ∙ sym all;
+      cut = λ is. absurd (true≢false (sym so ∙ is));
+      within = subst (λ (es : List Effect). length (texts es) ≤ room) (sym empty) (omega arith);
+      outs_are = outs_are ∙ ap (λ (es : List Effect). record no_outs { grown = texts es; appended = texts es }) (sym empty);
+    }
+
+doomed_due : (m : Dataset) (now : ℤ) → time.doomed now m ≢ [] → due now m ≢ []
+doomed_due m now some none = some (ap (λ (ps : List (Bytes × ℤ)). map (λ p. effect.Del p.0) (take most_deleted ps)) none)
+
+deleted_due : (m : Dataset) (now : ℤ) (room : ℕ) → deletions now m room ≢ [] → due now m ≢ []
+deleted_due m now room some none = some (ap (λ (ps : List (Bytes × ℤ)). within room (map (λ p. effect.Del p.0) (take most_deleted ps))) none)
+
+-- what is written was due
+pub beats_due : (a : NodeState) (now : ℤ) (effects : List Effect) (mark : Option ℤ) → a.core.master ≡ true → Beats a now effects mark → effects ≢ [] → HasDue a now
+beats_due a now effects mark master (Beats.cut short is set) some = HasDue.deletes master (deleted_due a.core.held now (room_in a.core) (λ none. some (is ∙ none)))
+beats_due a now effects mark master (Beats.marks whole un is set) some = HasDue.deletes master (doomed_due a.core.held now (λ none. some (is ∙ none)))
+beats_due a now effects mark master (Beats.beats whole has passed is set) some = HasDue.beats master has passed
+beats_due a now effects mark master (Beats.waits whole waiting is set) some = HasDue.deletes master (doomed_due a.core.held now (λ none. some (is ∙ none)))
+beats_due a now effects mark master (Beats.alone whole none passed is set) some = HasDue.deletes master (doomed_due a.core.held now (λ no_effect. some (is ∙ no_effect)))
+
+-- .. and so is a heartbeat
+pub beat_due : (a : NodeState) (now : ℤ) (whole : Bool) (s : Since) → a.core.master ≡ true → SinceBeat a now whole s → s ≡ since.Passed → HasDue a now
+beat_due a now whole s master (SinceBeat.passed so has passed is) e = HasDue.beats master has passed
+beat_due a now whole s master (SinceBeat.cut over is) e = let never : since.Waiting ≡ since.Passed = sym is ∙ e in cc
+beat_due a now whole s master (SinceBeat.unmarked so un is) e = let never : since.Unmarked ≡ since.Passed = sym is ∙ e in cc
+beat_due a now whole s master (SinceBeat.waits so waiting is) e = let never : since.Waiting ≡ since.Passed = sym is ∙ e in cc
+beat_due a now whole s master (SinceBeat.alone so none passed is) e = let never : since.Waiting ≡ since.Passed = sym is ∙ e in cc
+
+-- something is written where the stream grows
+pub writes_due : (a : NodeState) (now : ℤ) (effects : List Effect) (marks : Bool) (o : OutsState) → a.core.master ≡ true → Writes a now effects marks o → o.grown ≢ [] → HasDue a now
+writes_due a now effects marks o master writes grows =
+    beats_due a now effects (marked marks now a.core.mark) master writes.beats (λ none. grows (ap (λ (z : OutsState). z.grown) writes.outs_are ∙ ap texts none))

@@ -16,6 +16,7 @@ use Rattle.mr_commands.specs.declared.transactions.Within.{Within}
 use Rattle.mr_commands.specs.declared.transactions.Within.TheVariants as within
 use Rattle.mr_node_links.specs.State.{CanWait, Transaction, as_marked, begun, put_end, with_text}
 use Rattle.mr_node_links.specs.State.EndState.{client, waiting}
+use Rattle.mr_node_links.proofs.Places.{get_other, get_put}
 use Rattle.mr_node_output.specs.Outs.{no_outs}
 use Rattle.mr_node_spec.specs.State.{Core, NodeState, end_of}
 use Rattle.mr_node_spec.specs.Ends.{Leaves}
@@ -28,7 +29,7 @@ use Rattle.mr_node.specs.Reading.{Passes, Quits, Reads, Wishes}
 use Rattle.mr_node.specs.Steps.{IsAt}
 use Rattle.mr_node.specs.Within.{Comes, EndsWith, IsAtOpen, IsTodoWithin, KeepsAlong}
 use Rattle.mr_node.specs.declared.within.TodoWithin.{TodoWithin}
-use Rattle.mr_node.proofs.Ends.{get_other, get_put, put_leaves}
+use Rattle.mr_node.proofs.Ends.{put_leaves}
 
 -- ---- the text of a request
 -- what so many bytes ask is asked by these bytes

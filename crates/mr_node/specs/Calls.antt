@@ -7,7 +7,7 @@ use Rattle.mr_node_links.specs.State.{Transaction}
 use Rattle.mr_node_links.specs.State.EndState.{shut as closed}
 use Rattle.mr_node_spec.specs.State.{NodeState, Agrees, AgreesWithin, IsShut, IsTooMuch, MasterAgrees, ReplicaAgrees, end_of, stopped_as}
 use Rattle.mr_node_spec.specs.LinkRows.{Opens, Dials, Feeds}
-use Rattle.mr_node_spec.specs.TimeRows.{TickRow}
+use Rattle.mr_node_spec.specs.TimeRows.{HasDue, TickRow}
 use Rattle.mr_node.specs.declared.fault.NodeFault.{NodeFault}
 use Rattle.mr_node.specs.declared.fault.NodeFault.TheVariants as fault
 
@@ -16,18 +16,18 @@ pub data OpensNoMore (a b : NodeState) : Type 0 where
   down : a.core.up ≡ false → b ≡ a → OpensNoMore a b
   spent : a.core.up ≡ true → links_limit ≤ a.ends.opened → b ≡ stopped_as a → OpensNoMore a b
 
--- a client's link is opened
+-- a client's link is opened, of those that there may be
 abbrev pub OpenRow : NodeState → NodeState → Result LinkId NodeFault → Type 0
-OpenRow a b (Ok l) = (a.core.up ≡ true) × Opens a l b
-OpenRow a b (Err fault.Memory) = (a.core.up ≡ true) × (b ≡ a)
+OpenRow a b (Ok l) = (a.core.up ≡ true) × Opens a l b × (a.ends.opened < links_limit)
+OpenRow a b (Err fault.Memory) = (a.core.up ≡ true) × (b ≡ a) × (a.ends.opened < links_limit)
 OpenRow a b (Err fault.Stopped) = OpensNoMore a b
 OpenRow a b (Err fault.NoLink) = ⊥
 OpenRow a b (Err fault.InputFull) = ⊥
 
--- the master is dialled
+-- the master is dialled, by a link of those that there may be
 abbrev pub DialRow : NodeState → NodeState → Result (LinkId × OutsState) NodeFault → Type 0
-DialRow a b (Ok dialled) = (a.core.up ≡ true) × Dials a dialled.0 b dialled.1
-DialRow a b (Err fault.Memory) = (a.core.up ≡ true) × (b ≡ a)
+DialRow a b (Ok dialled) = (a.core.up ≡ true) × Dials a dialled.0 b dialled.1 × (a.ends.opened < links_limit)
+DialRow a b (Err fault.Memory) = (a.core.up ≡ true) × (b ≡ a) × (a.ends.opened < links_limit)
 DialRow a b (Err fault.Stopped) = OpensNoMore a b
 DialRow a b (Err fault.NoLink) = ⊥
 DialRow a b (Err fault.InputFull) = ⊥
@@ -44,10 +44,10 @@ FeedRow a l bytes count b (Err fault.Stopped) = (a.core.up ≡ false) × (b ≡ 
 FeedRow a l bytes count b (Err fault.NoLink) = (a.core.up ≡ true) × (end_of a l ≡ None) × (b ≡ a)
 FeedRow a l bytes count b (Err fault.InputFull) = IsTooMuch a l count × (b ≡ a)
 
--- time passes
+-- time passes; memory is lacking only where something is due
 abbrev pub TickStep : NodeState → ℤ → NodeState → Result OutsState NodeFault → Type 0
 TickStep a now b (Ok outs) = TickRow a now b outs
-TickStep a now b (Err fault.Memory) = (a.core.up ≡ true) × (b ≡ a)
+TickStep a now b (Err fault.Memory) = (a.core.up ≡ true) × (b ≡ a) × HasDue a now
 TickStep a now b (Err fault.Stopped) = (a.core.up ≡ false) × (b ≡ a)
 TickStep a now b (Err fault.NoLink) = ⊥
 TickStep a now b (Err fault.InputFull) = ⊥

@@ -10,7 +10,7 @@ use Rattle.mr_keyspace.specs.Changes.{NeedsNoMemory}
 use Rattle.mr_effect.specs.declared.effect.Effect.{Effect}
 use Rattle.mr_data.specs.declared.given.Given.{Given}
 use Rattle.mr_cmd_server.specs.declared.question.Question.{Question}
-use Rattle.mr_groups.specs.Groups.{grown_text}
+use Rattle.mr_groups.specs.Groups.{exec, grown_text, multi}
 use Rattle.mr_repl.specs.Lineage.{grown}
 use Rattle.mr_commands.specs.Requests.{HasPlan, IsPlain, question_in, quits}
 use Rattle.mr_commands.specs.Transactions.{Does, DoesAll, FirstTakesMemory, not_allowed}
@@ -45,16 +45,20 @@ abbrev pub IsWaited : NodeState → List (List ℕ) → Given → Waited → Typ
 IsWaited a words given (waited.Run plan) = IsPlain words × HasPlan (not a.core.master) a.core.held words given (view plan.reply) plan.effects.items
 IsWaited a words given (waited.Say reply) = IsTold a words (view reply)
 
+-- The texts of effects, behind both parts of a frame: what ends it stands in front of what begins it, so that no part takes room once all are done.
+abbrev pub behind_frame : List Effect → List ℕ
+behind_frame effects = (exec ++ multi) ++ texts effects
+
 -- the texts of effects that were put out so far, and what was answered
 abbrev pub put_out : List Effect → List ℕ → OutsState → OutsState
-put_out effects said o = record o { grown = texts effects; appended = texts effects; reply = said }
+put_out effects said o = record o { grown = behind_frame effects; appended = behind_frame effects; reply = said }
 
 -- The requests in front had these effects, which were put out and have room, and left this dataset.
 pub record AreDone (a : NodeState) (before : List Effect) (m : Dataset) (now : NodeState) (outs : OutsState) : Type 0 where
   pub node : now ≡ holding m a
   pub fits : (frame_of a).Fits before
-  pub grown : outs.grown ≡ texts before
-  pub appended : outs.appended ≡ texts before
+  pub grown : outs.grown ≡ behind_frame before
+  pub appended : outs.appended ≡ behind_frame before
 
 -- So many effects are done, of which a replica has none.
 pub record CountsDone (count : ℕ) (now : NodeState) (outs : OutsState) : Type 0 where
@@ -117,7 +121,7 @@ pub record DidAll (a : NodeState) (given : Given) (requests : List (List ℕ)) (
   pub counted : count ≡ length effects
   pub outs_are : outs ≡ put_out effects (first.reply ++ replies_text (as_trees replies)) first
 
--- Memory ran out within them: those in front were done, and they had effects, or those of the next take some.
+-- Memory ran out for one of them: those in front were done, and they had effects, or those of the next take some.
 pub record StoppedWithin (a : NodeState) (given : Given) (requests : List (List ℕ)) (b : NodeState) : Type 0 where
   pub done_first : List (List ℕ)
   pub left : List (List ℕ)
@@ -127,6 +131,7 @@ pub record StoppedWithin (a : NodeState) (given : Given) (requests : List (List 
   pub before : Dataset
   pub does : DoesAll (frame_of a) (not a.core.master) given done_first [] a.core.held replies effects before
   pub some : (effects ≢ []) ⊎ FirstTakesMemory (frame_of a) (not a.core.master) given left effects before
+  pub undone : left ≢ []
   pub held : Dataset
   pub spent : b ≡ spent_as held a
 
@@ -136,13 +141,21 @@ GivesUp fault.Memory zero a b told = (b ≡ a) × (told ≡ fault.Memory)
 GivesUp fault.Memory (suc count) a b told = (b ≡ stopped_as a) × (told ≡ fault.Stopped)
 GivesUp f count a b told = (b ≡ a) × (told ≡ f)
 
--- The group of these effects stands behind the stream; or memory was lacking, and the node stopped.
-abbrev pub ClosesGroup : List Effect → NodeState → OutsState → Result (Unit {0}) NodeFault → NodeState → OutsState → Type 0
-ClosesGroup effects a old (Ok done) b new = (b ≡ streams_on (grown_text effects) a) × (new ≡ record old { grown = grown_text effects; appended = grown_text effects; fed = new.fed }) × FedBy effects old.fed new.fed
-ClosesGroup effects a old (Err fault.Stopped) b new = (effects ≢ []) × (b ≡ stopped_as a)
-ClosesGroup effects a old (Err fault.Memory) b new = ⊥
-ClosesGroup effects a old (Err fault.NoLink) b new = ⊥
-ClosesGroup effects a old (Err fault.InputFull) b new = ⊥
+-- the texts of effects, so many, stand behind both parts of a frame
+pub record AreFramed (count : ℕ) (effects : List Effect) (outs : OutsState) : Type 0 where
+  pub counted : count ≡ length effects
+  pub grown : outs.grown ≡ behind_frame effects
+  pub appended : outs.appended ≡ behind_frame effects
+
+-- .. and are the text of their group, or of none
+pub record ClosesFrame (effects : List Effect) (old new : OutsState) : Type 0 where
+  pub outs_are : new ≡ record old { grown = grown_text effects; appended = grown_text effects; fed = new.fed }
+  pub fed : FedBy effects old.fed new.fed
+
+-- The group of these effects stands behind the stream.
+pub record ClosesGroup (effects : List Effect) (a : NodeState) (old : OutsState) (b : NodeState) (new : OutsState) : Type 0 where
+  pub node : b ≡ streams_on (grown_text effects) a
+  pub frame : ClosesFrame effects old new
 
 abbrev pub DoesEach : NodeState → Given → List (List ℕ) → OutsState → Result ℕ NodeFault → NodeState → OutsState → Type 0
 DoesEach a given requests first (Ok count) b outs = DidAll a given requests first count b outs

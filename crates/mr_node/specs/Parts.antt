@@ -35,10 +35,6 @@ pub record Uses (a : NodeState) (l : LinkId) (used : ℕ) (b : NodeState) : Type
   pub core : b.core ≡ a.core
   pub leaves : (end : EndState) → end_of a l ≡ Some end → Leaves a l b (used_of used end)
 
--- the effects lead somewhere
-abbrev pub Leads : List Effect → Dataset → Type 0
-Leads effects m = (n : Dataset) × (apply_all effects m ≡ Some n)
-
 -- what is written for a plan: its reply, with the texts of its effects where there is room for them
 abbrev pub Tells : Core → Tree → List Effect → OutsState → Bool → OutsState → Type 0
 Tells c reply effects old true new = (offset_behind effects c ≤ offset_limit) × (new ≡ record old { grown = texts effects; appended = texts effects; reply = reply_text reply })

@@ -31,14 +31,18 @@ IsWish node.Exec request.Exec = Unit {0}
 IsWish node.Discard request.Discard = Unit {0}
 IsWish _ _ = ⊥
 
+-- what these words are answered
+abbrev pub IsAnswered : Bool → List (List ℕ) → Given → Dataset → Answer → Type 0
+IsAnswered replica words given m (answer.Run plan) = IsPlain words × HasPlan replica m words given (view plan.reply) plan.effects.items
+IsAnswered replica words given m answer.Quit = quits words ≡ true
+IsAnswered replica words given m answer.Rewrite = rewrites words ≡ true
+IsAnswered replica words given m (answer.Tell question) = question_in words ≡ Some question
+IsAnswered replica words given m answer.Halt = halts words ≡ true
+
 -- what is to be done about words that so many bytes are
 abbrev pub IsDone : Bool → List (List ℕ) → ℕ → Given → Dataset → Todo → Type 0
-IsDone replica words n given m (todo.Quit) = quits words ≡ true
-IsDone replica words n given m (todo.Rewrite used) = (used ≡ n) × (rewrites words ≡ true)
-IsDone replica words n given m (todo.Tell used question) = (used ≡ n) × (question_in words ≡ Some question)
-IsDone replica words n given m (todo.Halt used) = (used ≡ n) × (halts words ≡ true)
-IsDone replica words n given m (todo.Run used plan) = (used ≡ n) × IsPlain words × HasPlan replica m words given (view plan.reply) plan.effects.items
 IsDone replica words n given m (todo.Ask used request) = (used ≡ n) × (wish : NodeAsk) × AsksNode words wish × IsWish wish request
+IsDone replica words n given m (todo.Do used answer) = (used ≡ n) × IsAnswered replica words given m answer
 IsDone replica words n given m _ = ⊥
 
 -- So many bytes are a request, of these words.
@@ -89,23 +93,20 @@ pub record Wishes (u : List ℕ) (used : ℕ) (wish : NodeAsk) : Type 0 where
   pub reads : Reads u used words
   pub asks : AsksNode words wish
 
+-- .. a request that is answered so
+abbrev pub IsAnsweredAt : Bool → List ℕ → Given → Dataset → ℕ → Answer → Type 0
+IsAnsweredAt replica u given m used (answer.Run plan) = Runs replica u given m used plan
+IsAnsweredAt replica u given m used answer.Quit = Quits u
+IsAnsweredAt replica u given m used answer.Rewrite = Rewrites u used
+IsAnsweredAt replica u given m used (answer.Tell question) = Questions u used question
+IsAnsweredAt replica u given m used answer.Halt = HaltsAt u used
+
 abbrev pub IsTodo : Bool → List ℕ → Given → Dataset → Todo → Type 0
 IsTodo replica u given m (todo.Wait progress) = Waits u × (length u < full)
 IsTodo replica u given m (todo.Skip used) = Passes u used
 IsTodo replica u given m (todo.Refuse fault) = IsDoomedBy u fault
-IsTodo replica u given m todo.Quit = Quits u
-IsTodo replica u given m (todo.Rewrite used) = Rewrites u used
-IsTodo replica u given m (todo.Tell used question) = Questions u used question
-IsTodo replica u given m (todo.Halt used) = HaltsAt u used
-IsTodo replica u given m (todo.Run used plan) = Runs replica u given m used plan
 IsTodo replica u given m (todo.Ask used request) = (wish : NodeAsk) × Wishes u used wish × IsWish wish request
-
-abbrev pub carry_out : Answer → ℕ → Todo
-carry_out (answer.Run plan) used = todo.Run used plan
-carry_out answer.Quit used = todo.Quit
-carry_out answer.Rewrite used = todo.Rewrite used
-carry_out (answer.Tell question) used = todo.Tell used question
-carry_out answer.Halt used = todo.Halt used
+IsTodo replica u given m (todo.Do used answer) = IsAnsweredAt replica u given m used answer
 
 -- where more is waited for, the progress is over the unread bytes
 abbrev pub KeepsAlong : Todo → List ℕ → Type 0

@@ -6,11 +6,10 @@ ghost use Rattle.mr_bytes.specs.Words.{fits};
 ghost use Rattle.mr_resp.specs.Usual.{commands};
 ghost use Rattle.mr_node_links.specs.Progresses.{AgreesAlong};
 ghost use Rattle.mr_node_spec.specs.ClientRows.{MayLack};
-ghost use Rattle.mr_node.specs.Reading.{IsTodo, KeepsAlong, IsDone, carry_out};
+ghost use Rattle.mr_node.specs.Reading.{IsTodo, KeepsAlong, IsDone};
 
 use crate::request::{NodeRequest, request_of};
 use mr_ask::{Ask, read};
-use mr_cmd_server::Question;
 use mr_commands::{Answer, answer_to};
 use mr_data::{Dataset, Given, Plan};
 use mr_resp::{Fault, Limits, Progress, Scan, more_is_wanted, next_request_from, words_fit};
@@ -26,18 +25,10 @@ pub(crate) enum Todo {
     Skip { used: usize },
     /// The fault is answered, and the link closed.
     Refuse(Fault),
-    /// OK is answered, and the link closed.
-    Quit,
-    /// A request is used, and the append-only file written anew.
-    Rewrite { used: usize },
-    /// A request is used, and the node tells of itself.
-    Tell { used: usize, question: Question },
-    /// A request is used, and the program is to end.
-    Halt { used: usize },
-    /// A request is used, and its plan carried out.
-    Run { used: usize, plan: Plan },
     /// A request is used, which asks something of the node itself.
     Ask { used: usize, request: NodeRequest },
+    /// Any other request is used, and its answer carried out.
+    Do { used: usize, answer: Answer },
 }
 
 /// Reads and plans. Nothing changes.
@@ -86,32 +77,22 @@ pub(crate) fn request_todo(
         IsDone replica (map cow_slice_items words.now) used given held.now t) }
 {
     match read(words) {
-        Err(fault) => Ok(Todo::Run {
+        Err(fault) => Ok(Todo::Do {
             used,
-            plan: Plan {
+            answer: Answer::Run(Plan {
                 reply: fault.reply(),
                 effects: Vec::new(alloc),
-            },
+            }),
         }),
         Ok(ask) => match &ask {
             Ask::Node(wish) => Ok(Todo::Ask {
                 used,
                 request: request_of(alloc, wish)?,
             }),
-            _ => Ok(carry_out(answer_to(alloc, held, replica, &ask, given)?, used)),
+            _ => Ok(Todo::Do {
+                used,
+                answer: answer_to(alloc, held, replica, &ask, given)?,
+            }),
         },
-    }
-}
-
-/// What is to be done about a request of so many bytes, by what it is answered.
-fn carry_out(answer: Answer, used: usize) -> Todo
-    ensures { result ≡ carry_out answer used }
-{
-    match answer {
-        Answer::Run(plan) => Todo::Run { used, plan },
-        Answer::Quit => Todo::Quit,
-        Answer::Rewrite => Todo::Rewrite { used },
-        Answer::Tell(question) => Todo::Tell { used, question },
-        Answer::Halt => Todo::Halt { used },
     }
 }

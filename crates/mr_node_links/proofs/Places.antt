@@ -4,14 +4,12 @@ use Rattle.std.specs.Ordering.{eq_by_cmp}
 use Rattle.std.specs.FinMap.{FinMap, get, insert, get-insert, same_map}
 use Rattle.std.proofs.lemmas.Cmp.{eq_by_cmp_equiv}
 use Rattle.std.proofs.lemmas.Map.Views.{tells_apart}
+pub use Rattle.std.proofs.lemmas.Option.{same_Some as some_is}
 use Rattle.mr_links.specs.LinkId.{id_cmp}
 use Rattle.mr_links.specs.Links.{Links}
 use Rattle.mr_links.specs.declared.link_id.LinkId.{LinkId}
 use Rattle.mr_links.proofs.LinkRows.{ids_total, exact_ids}
 use Rattle.mr_node_links.specs.State.{EndState, end_at, put_end, OthersStay}
-
-pub some_is : {A : Type 0} (x y : A) → ◌≡◌ {A = Option A} (Some x) (Some y) → x ≡ y
-some_is x y e = cc
 
 pub get_put : (m : FinMap id_cmp EndState) (l : LinkId) (e : EndState) → get (insert m l e) l ≡ Some e
 get_put m l e = get-insert ids_total m l e l ∙ ap (λ b. cond b (Some e) (get m l)) ((eq_by_cmp_equiv ids_total).refl l)

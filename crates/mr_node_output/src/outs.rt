@@ -1,5 +1,5 @@
 // What a step gives out.
-ghost use Rattle.std.specs.Prelude.{◌≡◌, ◌++◌, ◌∷◌, [], ◌+◌, true, false, length, nat_le, if◌then◌else◌, IfOk, IfSome, IfNone, IsTrue, None, OnOk, Some};
+ghost use Rattle.std.specs.Prelude.{◌≡◌, ◌≤◌, ◌++◌, ◌∷◌, [], ◌+◌, true, false, drop, length, nat_le, take, if◌then◌else◌, IfOk, IfSome, IfNone, IsTrue, None, OnOk, Some};
 ghost use Rattle.std.specs.Option.{option_map, option_copied};
 ghost use Rattle.mr_resp.specs.Replies.{reply_text};
 ghost use Rattle.mr_resp.specs.Spelling.{number_line};
@@ -411,25 +411,56 @@ impl Outs {
         Ok(true)
     }
 
-    /// What a master's stream grows by, and the file, stands between these bytes.
-    pub fn frame(&mut self, front: &[u8], behind: &[u8]) -> Result<(), AllocError>
-        requires { self.old.appended ≡ self.old.grown }
+    /// Both parts of a frame stand in front of the texts that are to come, first the one that ends it: so they take their room before any text.
+    pub fn begin_frame(&mut self, front: &[u8], behind: &[u8]) -> Result<(), AllocError>
+        requires { (self.old.grown ≡ []) × (self.old.appended ≡ []) }
         ensures { OnOk result (self.new ≡
             record self.old {
-              grown = front.now ++
-                  (self.old.grown ++ behind.now);
-              appended = front.now ++
-                  (self.old.grown ++ behind.now);
+              grown = behind.now ++ front.now;
+              appended = behind.now ++ front.now;
             }) }
     {
-        let mut framed = Vec::new(self.alloc);
-        framed.extend_from_slice(front)?;
-        framed.extend_from_slice(self.grown())?;
-        framed.extend_from_slice(behind)?;
-        self.filed = framed.len();
-        self.texts = framed;
+        self.filed = 0;
+        self.texts.clear();
+        self.texts.extend_from_slice(behind)?;
+        self.texts.extend_from_slice(front)?;
+        self.filed = self.texts.len();
         self.grows = true;
         Ok(())
+    }
+
+    /// So many bytes in front of what the stream grows by, and the file, stand behind all others from now on. It takes no memory.
+    pub fn turn_front(&mut self, count: usize)
+        requires few { count ≤ length self.old.grown }
+        requires same { self.old.appended ≡ self.old.grown }
+        ensures { self.new ≡
+            record self.old {
+              grown = drop count self.old.grown ++ take count self.old.grown;
+              appended = drop count self.old.grown ++ take count self.old.grown;
+            } }
+    {
+        if !self.grows {
+            return;
+        }
+        self.texts.rotate_left(count);
+        self.filed = self.texts.len();
+    }
+
+    /// So many bytes in front of what the stream grows by, and the file, are taken back. It takes no memory.
+    pub fn drop_front(&mut self, count: usize)
+        requires few { count ≤ length self.old.grown }
+        requires same { self.old.appended ≡ self.old.grown }
+        ensures { self.new ≡
+            record self.old {
+              grown = drop count self.old.grown;
+              appended = drop count self.old.grown;
+            } }
+    {
+        if !self.grows {
+            return;
+        }
+        self.texts.drain(..count);
+        self.filed = self.texts.len();
     }
 
     /// A master's stream grows by a heartbeat, and the file doesn't, if all of it together has no more bytes than this. It answers whether.

@@ -1,5 +1,6 @@
 -- What becomes of a node's stream, row by row.
 use Rattle.std.proofs.Common.{◌≡◌, ◌≤◌, ◌+◌, ◌∙◌, ℕ, List, [], Bool, true, false, not, Some, length, refl, sym, ap, subst, inl, inr, arith}
+use Rattle.std.proofs.lemmas.Option.{same_Some}
 use Rattle.mr_links.specs.declared.link_id.LinkId.{LinkId}
 use Rattle.mr_keyspace.specs.Dataset.{Dataset}
 use Rattle.mr_data.specs.Meaning.{apply_all}
@@ -67,9 +68,6 @@ Rests c d out = (d.held ≡ c.held) × ((d.lineage.stream.offset ≡ c.lineage.s
 resting : (c d : Core) (out : Output) → d ≡ c → out.grown ≡ [] → Rests c d out
 resting c d out is none = (ap (λ (z : Core). z.held) is, (ap (λ (z : Core). z.lineage.stream.offset) is, none))
 
-some_is : (m n : Dataset) → Some m ≡ Some n → n ≡ m
-some_is m n e = cc
-
 quiet_grown : (c : Core) (wish : NodeAsk) (out : Output) → IsQuiet c wish out → out.grown ≡ []
 quiet_grown c wish out (IsQuiet.introduces told is gives) = ap (λ (o : Output). o.grown) gives
 quiet_grown c wish out (IsQuiet.acknowledges offset is gives) = ap (λ (o : Output). o.grown) gives
@@ -82,7 +80,7 @@ quiet_grown c wish out (IsQuiet.stays_replica host port is replica followed give
 answered_rests : (c d : Core) (around : Around) (words : List (List ℕ)) (given : Given) (out : Output) → c.master ≡ false → Answered c around words given d out → Rests c d out
 answered_rests c d around words given out alone (Answered.within plain reply effects plan fits is gives) =
     let none : effects ≡ [] = none_on_replica (not c.master) words given c.held _ effects (ap not alone) plan.planned in
-    let left = some_is c.held _ (ap (λ (es : List Effect). apply_all es c.held) (sym none) ∙ plan.leads) in
+    let left = sym (same_Some c.held _ (ap (λ (es : List Effect). apply_all es c.held) (sym none) ∙ plan.leads)) in
     let bytes : texts effects ≡ [] = ap texts none in
     let count : length (texts effects) ≡ 0 = ap length bytes in (
       ap (λ (z : Core). z.held) is ∙ left,

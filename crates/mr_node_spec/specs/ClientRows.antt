@@ -34,7 +34,7 @@ use Rattle.mr_node_spec.specs.Served.{Served}
 
 -- What stands at the front is used: the node becomes what that makes of it, and what that gives out is given out. What the stream grew by
 -- goes to all replicas.
-pub record Serves (a : NodeState) (l : LinkId) (u : List ℕ) (given : Given) (b : NodeState) (outs : OutsState) : Type 0 where
+pub record ServesClient (a : NodeState) (l : LinkId) (u : List ℕ) (given : Given) (b : NodeState) (outs : OutsState) : Type 0 where
   pub up : a.core.up ≡ true
   pub rest : List ℕ
   pub out : Output
@@ -159,7 +159,7 @@ pub record Begins (a : NodeState) (l : LinkId) (u : List ℕ) (b : NodeState) (o
 
 -- a step that used something
 pub data ClientRow (a : NodeState) (l : LinkId) (u : List ℕ) (given : Given) (fresh : List ℕ) (b : NodeState) (outs : OutsState) : Type 0 where
-  serves : Serves a l u given b outs → ClientRow a l u given fresh b outs
+  serves : ServesClient a l u given b outs → ClientRow a l u given fresh b outs
   closes : Closes a l u b outs → ClientRow a l u given fresh b outs
   halts : Halts a l u b outs → ClientRow a l u given fresh b outs
   synchronizes : Synchronizes a l u b outs → ClientRow a l u given fresh b outs

@@ -1,5 +1,5 @@
 -- What a node does as time passes.
-use Rattle.std.specs.Prelude.{◌≡◌, ◌≤ℤ◌, ◌<ℤ◌, ◌+ℤ◌, ◌-◌, ◌<◌, ℕ, ℤ, pos, List, [], ◌∷◌, ◌++◌, map, take, true, false, Option, Some, None, length}
+use Rattle.std.specs.Prelude.{◌≡◌, ◌≢◌, ◌≤ℤ◌, ◌<ℤ◌, ◌+ℤ◌, ◌-◌, ◌<◌, ℕ, ℤ, pos, List, [], ◌∷◌, ◌++◌, map, take, true, false, Option, Some, None, length}
 use Rattle.mr_links.specs.declared.link_id.LinkId.{LinkId}
 use Rattle.mr_effect.specs.Spelling.{texts}
 use Rattle.mr_effect.specs.declared.effect.Effect.{Effect}
@@ -96,3 +96,9 @@ pub data Rests (a : NodeState) (now : ℤ) (mark : Option ℤ) (outs : OutsState
 pub data TickRow (a : NodeState) (now : ℤ) (b : NodeState) (outs : OutsState) : Type 0 where
   deletes : a.core.up ≡ true → Deletes a now b outs → TickRow a now b outs
   rests : a.core.up ≡ true → a.core.master ≡ false → (mark : Option ℤ) → Rests a now mark outs → b ≡ record a { core = record a.core { mark = mark } } → TickRow a now b outs
+
+-- Something is due, for which a tick takes memory: a master's keys are expired, its heartbeat has somebody to go to, or a replica is to acknowledge.
+pub data HasDue (a : NodeState) (now : ℤ) : Type 0 where
+  deletes : a.core.master ≡ true → due now a.core.held ≢ [] → HasDue a now
+  beats : a.core.master ≡ true → HasReplicas a → HasPassed a.core.mark now beat_after → HasDue a now
+  acknowledges : a.core.master ≡ false → (l : LinkId) → IsStreaming a l → HasPassed a.core.mark now acknowledge_after → HasDue a now

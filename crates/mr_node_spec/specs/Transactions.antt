@@ -115,7 +115,8 @@ pub data WithinRow (a : NodeState) (l : LinkId) (t : Transaction) (u : List ℕ)
   executes : Executes a l t u given b outs → WithinRow a l t u given b outs
   closes : Closes a l u b outs → WithinRow a l t u given b outs
 
--- Memory ran out within what waits, of which some has changed the dataset: those in front of it are done, and they had effects or it has.
+-- Memory ran out for one of those that wait, of which some has changed the dataset: those in front of it are done, and they had effects or its own take
+-- some. Once all are done nothing takes any, their frame's room was taken before.
 pub record StopsWithin (a : NodeState) (t : Transaction) (u : List ℕ) (given : Given) : Type 0 where
   pub words : List (List ℕ)
   pub rest : List ℕ
@@ -130,3 +131,4 @@ pub record StopsWithin (a : NodeState) (t : Transaction) (u : List ℕ) (given :
   pub held : Dataset
   pub does : DoesAll (frame_of a) (not a.core.master) given done_first [] a.core.held replies effects held
   pub some : (effects ≢ []) ⊎ FirstTakesMemory (frame_of a) (not a.core.master) given left effects held
+  pub undone : left ≢ []

@@ -2,6 +2,7 @@
 use Rattle.std.proofs.Common.{◌≡◌, ℕ, List, true, false, cond, Option, None, Some, refl, sym, ap, subst, ◌∙◌}
 use Rattle.std.specs.Prelude.{is_some}
 use Rattle.std.specs.FinMap.{FinMap, get, get-insert, get-remove, insert}
+use Rattle.std.proofs.lemmas.Option.{same_Some, none-some}
 use Rattle.mr_links.specs.LinkId.{id_cmp}
 use Rattle.mr_links.specs.Links.{Links}
 use Rattle.mr_links.specs.declared.link_id.LinkId.{LinkId}
@@ -19,12 +20,6 @@ use Rattle.mr_node_state.specs.Parts.{HasOne, shut_one}
 no_true : false ≡ true → ⊥
 no_true e = cc
 
-none_some : {A : Type 0} (x : A) → ◌≡◌ {A = Option A} None (Some x) → ⊥
-none_some x e = cc
-
-some_is : {A : Type 0} (x y : A) → ◌≡◌ {A = Option A} (Some x) (Some y) → x ≡ y
-some_is x y e = cc
-
 pub get_put : (m : FinMap id_cmp EndState) (l : LinkId) (e : EndState) → get (insert m l e) l ≡ Some e
 get_put m l e = get-insert ids_total m l e l ∙ at_or_other l l (λ b. cond b (Some e) (get m l) ≡ Some e) (λ same. refl) (λ other. absurd (other refl))
 
@@ -32,13 +27,13 @@ get_put m l e = get-insert ids_total m l e l ∙ at_or_other l l (λ b. cond b (
 at_put : (m : Links EndState) (l : LinkId) (e f : EndState) (r : Option (LinkId × FollowState)) → end_at m l ≡ Some e → (e ≡ upstream → ⊥) → FollowedAt m r → FollowedAt (put_end m l f) r
 at_put m l e f None found not h = tt
 at_put m l e f (Some r) found not h = get-insert ids_total m.open_links l f r.0
-    ∙ at_or_not r.0 l (λ b. cond b (Some f) (get m.open_links r.0) ≡ Some upstream) (λ is. absurd (not (some_is e upstream (sym found ∙ (ap (get m.open_links) (sym is) ∙ h))))) h
+    ∙ at_or_not r.0 l (λ b. cond b (Some f) (get m.open_links r.0) ≡ Some upstream) (λ is. absurd (not (same_Some e upstream (sym found ∙ (ap (get m.open_links) (sym is) ∙ h))))) h
 
 pub put_node : (a : NodeState) (l : LinkId) (e f : EndState) → IsNode a → end_at a.ends l ≡ Some e → (e ≡ upstream → ⊥) → (f ≡ upstream → ⊥) → (streams (Some f) ≡ true → a.core.master ≡ true)
     → IsNode (record a { ends = put_end a.ends l f })
 put_node a l e f i found was is goes = record {
   followed = at_put a.ends l e f a.follow found was i.followed;
-  only = λ x h. at_or_not x l (λ b. cond b (Some f) (get a.ends.open_links x) ≡ Some upstream → name_of a.follow ≡ Some x) (λ same q. absurd (is (some_is f upstream q))) (λ q. i.only x q)
+  only = λ x h. at_or_not x l (λ b. cond b (Some f) (get a.ends.open_links x) ≡ Some upstream → name_of a.follow ≡ Some x) (λ same q. absurd (is (same_Some f upstream q))) (λ q. i.only x q)
       (sym (get-insert ids_total a.ends.open_links l f x) ∙ h);
   sends = λ x h. at_or_not x l (λ b. streams (cond b (Some f) (get a.ends.open_links x)) ≡ true → a.core.master ≡ true) (λ same q. goes q) (λ q. i.sends x q)
       (ap streams (sym (get-insert ids_total a.ends.open_links l f x)) ∙ h);
@@ -49,7 +44,7 @@ put_node a l e f i found was is goes = record {
 at_opened : (m : Links EndState) (l : LinkId) (f : EndState) (r : Option (LinkId × FollowState)) → end_at m l ≡ None → FollowedAt m r → FollowedAt (opened_as m l f) r
 at_opened m l f None fresh h = tt
 at_opened m l f (Some r) fresh h = get-insert ids_total m.open_links l f r.0
-    ∙ at_or_not r.0 l (λ b. cond b (Some f) (get m.open_links r.0) ≡ Some upstream) (λ is. absurd (none_some upstream (sym fresh ∙ (ap (get m.open_links) (sym is) ∙ h)))) h
+    ∙ at_or_not r.0 l (λ b. cond b (Some f) (get m.open_links r.0) ≡ Some upstream) (λ is. absurd (none-some upstream (sym fresh ∙ (ap (get m.open_links) (sym is) ∙ h)))) h
 
 pub opened_node : (a : NodeState) (l : LinkId) (u : List ℕ) → IsNode a → end_at a.ends l ≡ None → IsNode (record a { ends = opened_as a.ends l (client u) })
 opened_node a l u i fresh = record {
@@ -77,7 +72,7 @@ pub unopened_node : (a : NodeState) (l : LinkId) (u : List ℕ) → end_at a.end
 unopened_node a l u fresh i = record {
   followed = un_opened a.ends l u a.follow i.followed;
   only = λ x h. i.only x (get-insert ids_total a.ends.open_links l (client u) x
-      ∙ at_or_not x l (λ b. cond b (Some (client u)) (get a.ends.open_links x) ≡ Some upstream) (λ same. absurd (none_some upstream (sym fresh ∙ (ap (get a.ends.open_links) (sym same) ∙ h)))) h);
+      ∙ at_or_not x l (λ b. cond b (Some (client u)) (get a.ends.open_links x) ≡ Some upstream) (λ same. absurd (none-some upstream (sym fresh ∙ (ap (get a.ends.open_links) (sym same) ∙ h)))) h);
   sends = λ x h. i.sends x (ap streams (get-insert ids_total a.ends.open_links l (client u) x)
       ∙ at_or_not x l (λ b. streams (cond b (Some (client u)) (get a.ends.open_links x)) ≡ true) (λ same. absurd (no_true (sym (ap streams fresh) ∙ (ap (λ z. streams (get a.ends.open_links z)) (sym same) ∙ h)))) h);
   nobody = i.nobody;
@@ -88,7 +83,7 @@ pub dialled_node : (a : NodeState) (l : LinkId) (f : FollowState) → IsNode a �
 dialled_node a l f i alone follows = record {
   followed = get_put a.ends.open_links l upstream;
   only = λ x h. at_or_not x l (λ b. cond b (Some upstream) (get a.ends.open_links x) ≡ Some upstream → ◌≡◌ {A = Option LinkId} (Some l) (Some x)) (λ same q. ap Some (sym same))
-      (λ q. absurd (none_some x (sym (ap name_of alone) ∙ i.only x q))) (sym (get-insert ids_total a.ends.open_links l upstream x) ∙ h);
+      (λ q. absurd (none-some x (sym (ap name_of alone) ∙ i.only x q))) (sym (get-insert ids_total a.ends.open_links l upstream x) ∙ h);
   sends = λ x h. at_or_not x l (λ b. streams (cond b (Some upstream) (get a.ends.open_links x)) ≡ true → a.core.master ≡ true) (λ same q. absurd (no_true q)) (λ q. i.sends x q)
       (ap streams (sym (get-insert ids_total a.ends.open_links l upstream x)) ∙ h);
   nobody = λ m. absurd (no_true (sym follows ∙ m));
@@ -107,7 +102,7 @@ only_gone : (m : Links EndState) (f : Option (LinkId × FollowState)) → ((x : 
     → get (shut_one (name_of f) m).open_links x ≡ Some upstream → ◌≡◌ {A = Option LinkId} None (Some x)
 only_gone m None h x q = h x q
 only_gone m (Some f) h x q = at_or_other x f.0 (λ b. cond b (Some shut) (get m.open_links x) ≡ Some upstream → ◌≡◌ {A = Option LinkId} None (Some x))
-    (λ is z. absurd (no_shut z)) (λ ne z. absurd (ne (sym (some_is f.0 x (h x z))))) (sym (get-insert ids_total m.open_links f.0 shut x) ∙ q)
+    (λ is z. absurd (no_shut z)) (λ ne z. absurd (ne (sym (same_Some f.0 x (h x z))))) (sym (get-insert ids_total m.open_links f.0 shut x) ∙ q)
   where
     no_shut : ◌≡◌ {A = Option EndState} (Some shut) (Some upstream) → ⊥
     no_shut e = cc
@@ -134,11 +129,11 @@ at_closed m l (Some r) h = at_or_other r.0 l (λ b. FollowedAt (without m l) (co
 only_closed : (m : Links EndState) (l : LinkId) (f : Option (LinkId × FollowState)) → ((x : LinkId) → get m.open_links x ≡ Some upstream → name_of f ≡ Some x) → (x : LinkId)
     → get (without m l).open_links x ≡ Some upstream → name_of (follow_without l f) ≡ Some x
 only_closed m l f h x q = at_or_other x l (λ b. cond b None (get m.open_links x) ≡ Some upstream → name_of (follow_without l f) ≡ Some x)
-    (λ is z. absurd (none_some upstream z)) (λ ne z. kept f (h x z) ne) (sym (get-remove ids_total m.open_links l x) ∙ q)
+    (λ is z. absurd (none-some upstream z)) (λ ne z. kept f (h x z) ne) (sym (get-remove ids_total m.open_links l x) ∙ q)
   where
     kept : (f : Option (LinkId × FollowState)) → name_of f ≡ Some x → (x ≡ l → ⊥) → name_of (follow_without l f) ≡ Some x
     kept None is ne = is
-    kept (Some r) is ne = at_or_other r.0 l (λ b. name_of (cond b None (Some r)) ≡ Some x) (λ same. absurd (ne (sym (some_is r.0 x is) ∙ same))) (λ other. is)
+    kept (Some r) is ne = at_or_other r.0 l (λ b. name_of (cond b None (Some r)) ≡ Some x) (λ same. absurd (ne (sym (same_Some r.0 x is) ∙ same))) (λ other. is)
 
 follow_none : (l : LinkId) (f : Option (LinkId × FollowState)) → f ≡ None → follow_without l f ≡ None
 follow_none l f is = ap (follow_without l) is
@@ -186,5 +181,5 @@ reading_node a core name f g i found same = record {
   followed = subst (FollowedAt a.ends) found i.followed;
   only = λ x h. subst (λ z. name_of z ≡ Some x) found (i.only x h);
   sends = λ x h. same ∙ i.sends x h;
-  nobody = λ q. absurd (none_some (name, f) (sym (i.nobody (sym same ∙ q)) ∙ found));
+  nobody = λ q. absurd (none-some (name, f) (sym (i.nobody (sym same ∙ q)) ∙ found));
 }

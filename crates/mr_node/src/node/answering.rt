@@ -1,5 +1,5 @@
 // What a client's request is answered, where it asks nothing of the node itself.
-ghost use Rattle.std.specs.Prelude.{◌≡◌, ◌≤◌, ℕ, List, [], true, not, length, IfOk, OnOk, Some, Ok, false};
+ghost use Rattle.std.specs.Prelude.{◌≡◌, ◌≢◌, ◌≤◌, ℕ, List, [], true, not, length, IfErr, IfOk, OnOk, Some, Ok, false};
 ghost use Rattle.mr_resp.specs.ReplyView.{view};
 ghost use Rattle.mr_resp.specs.Replies.{error, reply_text};
 ghost use Rattle.mr_resp.specs.Faults.{fault_text};
@@ -18,7 +18,8 @@ ghost use Rattle.mr_node.specs.Reading.{HaltsAt, Passes, Quits, Rewrites, Runs};
 ghost use Rattle.mr_node_spec.specs.Requests.{IsDoomedBy};
 ghost use Rattle.mr_node.specs.Steps.{ClientStep, IsAt, step_of};
 ghost use Rattle.mr_node.specs.Within.{IsAtOpen, WithinStep};
-ghost use Rattle.mr_node.specs.Parts.{AreEmpty, FeedsAll, Leads, Tells};
+ghost use Rattle.mr_node_state.specs.Parts.{Leads};
+ghost use Rattle.mr_node.specs.Parts.{AreEmpty, FeedsAll, Tells};
 
 use crate::fault::NodeFault;
 use crate::node::Node;
@@ -195,7 +196,8 @@ impl Node {
     /// What the stream grows by goes to all replicas. Where it grows by nothing, nothing is sent.
     pub(crate) fn feed_replicas(&self, outs: &mut Outs) -> Result<(), AllocError>
         requires { outs.old.fed ≡ [] }
-        ensures { OnOk result (FeedsAll self.now outs.old outs.new) }
+        ensures feeds { OnOk result (FeedsAll self.now outs.old outs.new) }
+        ensures lacks { IfErr result (λ lacks. outs.old.grown ≢ []) }
     {
         if outs.grown().is_empty() {
             return Ok(());

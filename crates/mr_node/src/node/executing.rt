@@ -16,8 +16,8 @@ ghost use Rattle.mr_node_links.specs.Parts.{HasOpen};
 ghost use Rattle.mr_node_links.specs.State.{CanWait, Transaction};
 ghost use Rattle.mr_node_output.specs.Outs.{no_outs};
 ghost use Rattle.mr_node_spec.specs.State.{NodeState};
-ghost use Rattle.mr_node.specs.Executing.{ClosesGroup, CountsDone, DoesEach, DoesOne, Executes, GivesUp, IsWaited, SaysOnly, AreDone};
-ghost use Rattle.mr_node.specs.Parts.{Leads};
+ghost use Rattle.mr_node.specs.Executing.{AreFramed, behind_frame, ClosesFrame, ClosesGroup, CountsDone, DoesEach, DoesOne, Executes, GivesUp, IsWaited, SaysOnly, AreDone};
+ghost use Rattle.mr_node_state.specs.Parts.{Leads};
 ghost use Rattle.mr_node.specs.Steps.{step_of};
 ghost use Rattle.mr_node.specs.Within.{Comes, IsAtOpen, WithinStep};
 ghost use Rattle.mr_commands.specs.declared.transactions.Within.TheVariants as within;
@@ -28,7 +28,7 @@ use crate::replies::past_the_limit;
 use crate::step::Outcome;
 use crate::todo::{Todo, request_todo};
 use crate::waited::Waited;
-use mr_commands::not_allowed;
+use mr_commands::{Answer, not_allowed};
 use mr_data::{Given, Plan};
 use mr_groups::{FRAME, exec_text, multi_text};
 use mr_links::LinkId;
@@ -69,7 +69,7 @@ impl Node {
     }
 
     /// Does the requests of these texts, and lets the stream grow by the group of their effects. Where memory is lacking before one of them had
-    /// an effect, nothing has changed; behind that the node stops.
+    /// an effect, nothing has changed; behind that the node stops. Once all are done none is taken.
     fn execute_all(
         &mut self,
         requests: &[Vec<u8>],
@@ -82,6 +82,9 @@ impl Node {
         ensures { Executes self.old given (map (λ r. r.items) requests.now) outs.old result
             self.new outs.new }
     {
+        if outs.begin_frame(multi_text(), exec_text()).is_err() {
+            return Err(NodeFault::Memory);
+        }
         if outs.feed(self.state.ends().replicas()).is_err() {
             return Err(NodeFault::Memory);
         }
@@ -89,7 +92,10 @@ impl Node {
             return Err(NodeFault::Memory);
         }
         match self.execute_each(requests, given, outs) {
-            Ok(count) => self.close_group(count, outs),
+            Ok(count) => {
+                self.close_group(count, outs);
+                Ok(())
+            }
             Err(fault) => Err(fault),
         }
     }
@@ -102,8 +108,8 @@ impl Node {
         outs: &mut Outs,
     ) -> Result<usize, NodeFault>
         requires requests { All CanWait (map (λ r. r.items) requests.now) }
-        requires grown { outs.old.grown ≡ [] }
-        requires appended { outs.old.appended ≡ [] }
+        requires grown { outs.old.grown ≡ behind_frame [] }
+        requires appended { outs.old.appended ≡ behind_frame [] }
         ensures { DoesEach self.old given (map (λ r. r.items) requests.now) outs.old result
             self.new outs.new }
     {
@@ -133,21 +139,14 @@ impl Node {
     }
 
     /// The texts of so many effects stand in a frame where they are several, and behind the stream. Where there are none nobody is fed.
-    fn close_group(&mut self, count: usize, outs: &mut Outs) -> Result<(), NodeFault>
+    fn close_group(&mut self, count: usize, outs: &mut Outs)
         requires { CountsDone count self.old outs.old }
         ensures { (a : NodeState) (effects : List Effect) (m : Held) →
             AreDone a effects m self.old outs.old → count ≡ length effects →
-            ClosesGroup effects self.old outs.old result self.new outs.new }
+            ClosesGroup effects self.old outs.old self.new outs.new }
     {
-        if count == 0 {
-            outs.feed_nobody();
-        }
-        if count > 1 && outs.frame(multi_text(), exec_text()).is_err() {
-            self.state.stop();
-            return Err(NodeFault::Stopped);
-        }
+        close_frame(count, outs);
         self.state.grow(outs.grown());
-        Ok(())
     }
 }
 
@@ -194,8 +193,11 @@ impl Node {
         let used = 0;
         let held = self.state.held();
         match request_todo(self.alloc, held, !self.state.master(), words, used, given)? {
-            Todo::Run { used: _, plan } => Ok(Waited::Run(plan)),
-            Todo::Tell { used: _, question } => Ok(Waited::Say(self.answer_about(question)?)),
+            Todo::Do { used: _, answer } => match answer {
+                Answer::Run(plan) => Ok(Waited::Run(plan)),
+                Answer::Tell(question) => Ok(Waited::Say(self.answer_about(question)?)),
+                _ => Ok(Waited::Say(not_allowed())),
+            },
             _ => Ok(Waited::Say(not_allowed())),
         }
     }
@@ -225,7 +227,8 @@ impl Node {
         if room < frame {
             return say_only(&past_the_limit(), outs);
         }
-        match outs.grow_on(effects.as_slice(), room - frame) {
+        // the parts of a frame stand in front of the texts already
+        match outs.grow_on(effects.as_slice(), room - frame + FRAME) {
             Err(_) => return Err(NodeFault::Memory),
             Ok(false) => return say_only(&past_the_limit(), outs),
             Ok(true) => {}
@@ -238,6 +241,24 @@ impl Node {
         }
         Ok(count)
     }
+}
+
+/// The texts of so many effects, which stand behind both parts of a frame, stand in it where they are several, and else alone. Where there
+/// are none nobody is fed.
+fn close_frame(count: usize, outs: &mut Outs)
+    requires { (effects : List Effect) × AreFramed count effects outs.old }
+    ensures { (effects : List Effect) → AreFramed count effects outs.old →
+        ClosesFrame effects outs.old outs.new }
+{
+    if count > 1 {
+        outs.turn_front(exec_text().len());
+        return;
+    }
+    outs.drop_front(FRAME as usize);
+    if count == 1 {
+        return;
+    }
+    outs.feed_nobody();
 }
 
 /// How many bytes stand round the texts of so many effects behind so many.

@@ -16,10 +16,11 @@ use std::hash::RandomState;
 const PING_LINE: &[u8] = b"*1\r\n$4\r\nPING\r\n";
 
 impl Node {
-    /// Opens the node's end of a client's link, under a name that was never given before.
+    /// Opens the node's end of a client's link, under a name that was never given before. Past the last name the node stops.
     pub fn open(&mut self) -> Result<LinkId, NodeFault>
         ensures { OpenRow self.old self.new result }
     {
+        // a name is given once, so that they may run out
         if self.opens_no_more() {
             return Err(NodeFault::Stopped);
         }
@@ -54,6 +55,7 @@ impl Node {
         requires alone { self.old.follow ≡ None }
         ensures { DialRow self.old self.new result }
     {
+        // as they may for clients' links
         if self.opens_no_more() {
             return Err(NodeFault::Stopped);
         }

@@ -10,6 +10,7 @@ use crate::fault::NodeFault;
 use crate::node::Node;
 use crate::step::{Outcome, Step};
 use crate::todo::{Todo, todo_of};
+use mr_commands::Answer;
 use mr_data::Given;
 use mr_links::LinkId;
 use mr_node_links::Kind;
@@ -96,12 +97,14 @@ impl Node {
             }
             Todo::Skip { used } => Ok(self.skip(link, used)),
             Todo::Refuse(fault) => self.refuse(link, fault, outs),
-            Todo::Quit => self.quit(link, outs),
-            Todo::Rewrite { used } => self.rewrite(link, used, outs),
-            Todo::Tell { used, question } => self.tell(link, used, question, outs),
-            Todo::Halt { used } => Ok(self.halt(link, used, outs)),
-            Todo::Run { used, plan } => self.run(link, used, plan, outs),
             Todo::Ask { used, request } => self.ask(link, used, request, fresh, outs),
+            Todo::Do { used, answer } => match answer {
+                Answer::Run(plan) => self.run(link, used, plan, outs),
+                Answer::Quit => self.quit(link, outs),
+                Answer::Rewrite => self.rewrite(link, used, outs),
+                Answer::Tell(question) => self.tell(link, used, question, outs),
+                Answer::Halt => Ok(self.halt(link, used, outs)),
+            },
         }
     }
 

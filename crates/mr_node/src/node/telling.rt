@@ -1,5 +1,5 @@
 // What a node tells of itself.
-ghost use Rattle.std.specs.Prelude.{◌≡◌, ◌↔◌, ◌⊎◌, ℕ, List, Some, false, IfOk, IfErr, IsErrOf, length, not, option_copied};
+ghost use Rattle.std.specs.Prelude.{◌≡◌, ◌↔◌, ◌⊎◌, if◌then◌else◌, ℕ, List, Some, None, false, IfOk, IfErr, IsErrOf, length, not, option_copied};
 ghost use Rattle.std.specs.FinMap as map;
 ghost use Rattle.mr_resp.specs.ReplyView.{view};
 ghost use Rattle.mr_data.specs.declared.given.Given.{Given};
@@ -143,11 +143,16 @@ impl Node {
         self.state.upstream()
     }
 
-    /// How many keys its dataset has, expired ones included, stopped or not. It takes no memory.
-    pub fn key_count(&self) -> usize
-        ensures { result ≡ map.len self.now.core.held }
+    /// How many keys its dataset has, expired ones included; none once it is stopped, whose dataset may be spent. It takes no memory.
+    pub fn key_count(&self) -> Option<usize>
+        ensures { result ≡ if self.now.core.up
+            then Some (map.len self.now.core.held)
+            else None }
     {
-        self.state.held().len()
+        if !self.state.up() {
+            return None;
+        }
+        Some(self.state.held().len())
     }
 
     /// How far a replica has come with the link to its master.

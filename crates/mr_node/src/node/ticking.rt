@@ -1,12 +1,12 @@
 // What a node does as time passes.
-ghost use Rattle.std.specs.Prelude.{◌≡◌, ◌≤ℤ◌, ◌+◌, ◌++◌, pos, [], true, false, length, nat_le, if◌then◌else◌, All, IfOk, IfSome, IfNone, OnOk};
+ghost use Rattle.std.specs.Prelude.{◌≡◌, ◌≢◌, ◌≤ℤ◌, ◌+◌, ◌++◌, pos, [], true, false, length, nat_le, if◌then◌else◌, All, IfErr, IfOk, IfSome, IfNone, OnOk};
 ghost use Rattle.mr_effect.specs.Spelling.{size, text};
 ghost use Rattle.mr_effect.specs.declared.effect.Effect.TheVariants as effect;
 ghost use Rattle.mr_links.specs.declared.link_id.LinkId.{LinkId};
-ghost use Rattle.mr_data.specs.Due.{HasWord};
+ghost use Rattle.mr_data.specs.Due.{HasWord, due};
 ghost use Rattle.mr_data.specs.Given.{IsMoment};
 ghost use Rattle.mr_node_output.specs.Outs.{no_outs};
-ghost use Rattle.mr_node_spec.specs.TimeRows.{IsStreaming};
+ghost use Rattle.mr_node_spec.specs.TimeRows.{HasDue, IsStreaming};
 ghost use Rattle.mr_node_spec.specs.Acknowledging.{acknowledgement};
 ghost use Rattle.mr_node.specs.Calls.{TickStep};
 ghost use Rattle.mr_node.specs.Ticking.{Doomed, Fitting, IsSince, PutsBeats, SinceBeat};
@@ -78,7 +78,7 @@ struct Deletions {
 impl Node {
     /// Time passes. A master deletes the first keys that are expired, 64 at most, in order of deadline and then of bytes, and sends its
     /// replicas a heartbeat where it is time for one. It ends before the first text that would carry the offset past its limit. A replica
-    /// deletes nothing: it acknowledges how far it holds its master's stream, where it is time to.
+    /// deletes nothing: it acknowledges how far it holds its master's stream, where it is time to. It takes memory only for what is due.
     pub fn tick(&mut self, given: Given) -> Result<Outs, NodeFault>
         ensures { TickStep self.old given.now self.new result }
     {
@@ -112,11 +112,13 @@ impl Node {
         Ok(outs)
     }
 
-    /// Writes what a master's tick gives out.
+    /// Writes what a master's tick gives out. It takes memory only for keys that are expired, and for a heartbeat that is due.
     fn put_beats(&self, now: i64, outs: &mut Outs) -> Result<Beats, AllocError>
+        requires master { self.now.core.master ≡ true }
         requires empty { outs.old ≡ no_outs }
         requires moment { IsMoment now }
-        ensures { IfOk result (λ beats. PutsBeats self.now now beats outs.new) }
+        ensures puts { IfOk result (λ beats. PutsBeats self.now now beats outs.new) }
+        ensures lacks { IfErr result (λ lacks. HasDue self.now now) }
     {
         let room = OFFSET_LIMIT - self.state.lineage().stream().end();
         let Deletions { effects, whole } = doomed(self.alloc, self.state.held(), now, room, outs)?;
@@ -208,7 +210,7 @@ impl Node {
     }
 }
 
-/// The deletions of a tick, as far as there is room. Their texts are put into the outs.
+/// The deletions of a tick, as far as there is room. Their texts are put into the outs. Where no key is expired it takes no memory.
 fn doomed(
     alloc: Global,
     held: &Dataset,
@@ -217,8 +219,15 @@ fn doomed(
     outs: &mut Outs,
 ) -> Result<Deletions, AllocError>
     requires { outs.old ≡ no_outs }
-    ensures { IfOk result (λ d. Doomed held.now now room d outs.new) }
+    ensures deletions { IfOk result (λ d. Doomed held.now now room d outs.new) }
+    ensures lacks { IfErr result (λ lacks. due now held.now ≢ []) }
 {
+    if held.due(now).is_none() {
+        return Ok(Deletions {
+            effects: Vec::new(alloc),
+            whole: true,
+        });
+    }
     let dues = held.due_keys(alloc, now, MOST_DELETED)?;
     let count = dues.len();
     let effects = put_deletions(alloc, dues, room, outs)?;

@@ -10,20 +10,20 @@ use Rattle.mr_node.proofs.node.Node.beat.Goals as goal
 use Rattle.mr_node.proofs.node.Node.beat.Goals.{then-marks, else-marks}
 
 pub commit-requires-clause-leads : goal.commit-requires-clause-leads
-commit-requires-clause-leads c = they_lead c.in-Ok.field-0.effects.items c.self.inside.state.core.held c.in-Ok.ensures.light
+commit-requires-clause-leads c = they_lead c.in-Ok.field-0.effects.items c.self.inside.state.core.held c.in-Ok.ensures.puts.light
 
 pub commit-requires-clause-within : goal.commit-requires-clause-within
-commit-requires-clause-within c = subst (λ (z : NodeState). offset_behind c.in-Ok.field-0.effects.items z.core ≤ offset_limit) (sym c.self.view_is) c.in-Ok.ensures.within
+commit-requires-clause-within c = subst (λ (z : NodeState). offset_behind c.in-Ok.field-0.effects.items z.core ≤ offset_limit) (sym c.self.view_is) c.in-Ok.ensures.puts.within
 
 pub unreachable-requires : goal.unreachable-requires
-unreachable-requires c = never_lacks c.commit.result c.in_default-commit.field-0 c.in_default-commit.is (c.commit.ensures.light (they_are_light c.in-Ok.field-0.effects.items c.in-Ok.ensures.light))
+unreachable-requires c = never_lacks c.commit.result c.in_default-commit.field-0 c.in_default-commit.is (c.commit.ensures.light (they_are_light c.in-Ok.field-0.effects.items c.in-Ok.ensures.puts.light))
 
 pub returns : goal.returns
 returns c =
     let same : c.fresh_outs-outs.new.self ≡ c.args.self.now = c.fresh_outs-outs.ensures.same in
     let now : to_z w64 (of_z w64 c.args.now) ≡ c.args.now = to_z-of_z w64 c.args.now c.ranges.now in
     let puts : PutsBeats c.args.self.now c.args.now c.in-Ok.field-0 c.put_beats.new.outs =
-    subst (λ (z : NodeState). PutsBeats z c.args.now c.in-Ok.field-0 c.put_beats.new.outs) same (subst (λ (z : ℤ). PutsBeats c.fresh_outs-outs.new.self z c.in-Ok.field-0 c.put_beats.new.outs) now c.in-Ok.ensures) in
+    subst (λ (z : NodeState). PutsBeats z c.args.now c.in-Ok.field-0 c.put_beats.new.outs) same (subst (λ (z : ℤ). PutsBeats c.fresh_outs-outs.new.self z c.in-Ok.field-0 c.put_beats.new.outs) now c.in-Ok.ensures.puts) in
     let commits : Commits c.args.self.now c.in-Ok.field-0.effects.items c.commit.new.self =
     subst (λ (z : NodeState). Commits z c.in-Ok.field-0.effects.items c.commit.new.self) (c.self.view_is ∙ same) c.in-Ok-commit.ensures.ok in
     elim c.if-marks.branch [

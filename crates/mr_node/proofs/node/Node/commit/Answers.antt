@@ -31,7 +31,7 @@ returns-then-is_err-2 c = λ u given fresh at r.
 pub returns : goal.returns
 returns c = λ u given fresh at r.
     let a = c.args.self.now in let b = c.advance.new.self in let es = c.args.plan.effects.items in
-    let feeds : FeedsAll a c.args.outs.now c.feed_replicas.new.outs = on_ok_is c.feed_replicas.result _ (sym c.is_err.ensures.value ∙ c.if-is_err.false) c.feed_replicas.ensures in
+    let feeds : FeedsAll a c.args.outs.now c.feed_replicas.new.outs = on_ok_is c.feed_replicas.result _ (sym c.is_err.ensures.value ∙ c.if-is_err.false) c.feed_replicas.ensures.feeds in
     let commits : Commits a es c.commit.new.self = subst (λ (s : NodeState). Commits s es c.commit.new.self) c.self.view_is (on_ok_is c.commit.result _ (sym c.is_err-2.ensures.value ∙ c.if-is_err-2.false) c.commit.ensures.ok) in
     let outs : c.feed_replicas.new.outs ≡ record (outs_with (Some c.args.link) (record (growth (texts es)) { said = reply_text (view c.args.plan.reply) })) { fed = feeds.names } =
     feeds.outs_are ∙ ap (λ (o : OutsState). record o { fed = feeds.names }) c.requires.outs in

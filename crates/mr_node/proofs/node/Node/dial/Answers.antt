@@ -14,4 +14,5 @@ returns c =
       on.up,
       dials_row c.args.self.now c.self.inside.state c.dial.new.self c.in-Ok.link c.bind.new.self same c.requires.replica c.requires.alone c.in-Ok.ensures.fresh c.in-Ok.ensures.generation c.in-Ok.ensures.dials
           (c.bind.ensures ∙ (ap (λ (z : OutsState). record z { link = Some c.in-Ok.link }) said ∙ greets c.fresh_outs-outs.result c.fresh_outs-outs.ensures.outs)),
+      on.few,
     )

@@ -9,7 +9,7 @@ use Rattle.mr_commands.specs.Transactions.{past_limit}
 use Rattle.mr_node_spec.specs.State.{NodeState}
 use Rattle.mr_node_state.specs.Parts.{Holds, Leads, Spends}
 use Rattle.mr_node.specs.Executing.{SaysOnly}
-use Rattle.mr_node.proofs.Executing.{did_some, have_no_room, have_room, passing, plain_reply, says_so, spent_by}
+use Rattle.mr_node.proofs.Executing.{behind_length, did_some, have_no_room, have_room, passing, plain_reply, says_so, spent_by}
 use Rattle.mr_node.proofs.Results.{is_no_ok, on_err_is, on_ok_is}
 use Rattle.mr_node_state.proofs.Changes.{none_there}
 use Rattle.mr_node.proofs.node.Node.execute_plan.Goals as goal
@@ -51,8 +51,8 @@ returns-in-Ok-false c = λ a given words before m plain plan d is.
     let offset : c.end-room.result ≡ a.core.lineage.stream.offset = here ∙ ap (λ (s : NodeState). s.core.lineage.stream.offset) d.node in
     let window : c.end-room.result ≤ 4611686018427387904 = search rules in
     let room : frame ≤ 4611686018427387904 - c.end-room.result = search rules in
-    let put : length c.args.outs.now.grown ≡ length (texts before) = ap length d.grown in
-    let over : (4611686018427387904 - c.end-room.result) - frame < length c.args.outs.now.grown + length (texts es) = search rules in
+    let put : length c.args.outs.now.grown ≡ 29 + length (texts before) = ap length d.grown ∙ behind_length before in
+    let over : ((4611686018427387904 - c.end-room.result) - frame) + 29 < length c.args.outs.now.grown + length (texts es) = search rules in
     let stays : c.grow_on.new.self ≡ c.args.outs.now = search rules in
     says_so a given words before m c.args.self.now c.args.outs.now d past_limit c.say_only-in-Ok-false.result c.say_only-in-Ok-false.new.outs
     (passing a given words before m c.args.self.now c.args.outs.now d (view c.args.plan.reply) es plain plan (have_no_room a before es frame framed (omega (arith, offset, window, room, put, over))))
@@ -71,8 +71,8 @@ returns-then-is_err-2 c = λ a given words before m plain plan d is.
     let offset : c.end-room.result ≡ a.core.lineage.stream.offset = here ∙ ap (λ (s : NodeState). s.core.lineage.stream.offset) d.node in
     let window : c.end-room.result ≤ 4611686018427387904 = search rules in
     let room : frame ≤ 4611686018427387904 - c.end-room.result = search rules in
-    let put : length c.args.outs.now.grown ≡ length (texts before) = ap length d.grown in
-    let within : length c.args.outs.now.grown + length (texts es) ≤ (4611686018427387904 - c.end-room.result) - frame = search rules in
+    let put : length c.args.outs.now.grown ≡ 29 + length (texts before) = ap length d.grown ∙ behind_length before in
+    let within : length c.args.outs.now.grown + length (texts es) ≤ ((4611686018427387904 - c.end-room.result) - frame) + 29 = search rules in
     let spends : Spends c.self.inside.state es c.apply.new.self = on_err_is c.apply.result _ (sym c.is_err-2.ensures.value ∙ c.if-is_err-2.true) c.apply.ensures.spent in
     spent_by a given words before m c.args.self.now c.args.outs.now d (view c.args.plan.reply) es plain plan (have_room a before es frame framed (omega (arith, offset, window, room, put, within))) c.apply.new.self
     (λ light. is_no_ok c.apply.result (sym c.is_err-2.ensures.value ∙ c.if-is_err-2.true) (c.apply.ensures.light light))
@@ -90,8 +90,8 @@ returns c = λ a given words before m plain plan d is.
     let offset : c.end-room.result ≡ a.core.lineage.stream.offset = here ∙ ap (λ (s : NodeState). s.core.lineage.stream.offset) d.node in
     let window : c.end-room.result ≤ 4611686018427387904 = search rules in
     let room : frame ≤ 4611686018427387904 - c.end-room.result = search rules in
-    let put : length c.args.outs.now.grown ≡ length (texts before) = ap length d.grown in
-    let within : length c.args.outs.now.grown + length (texts es) ≤ (4611686018427387904 - c.end-room.result) - frame = search rules in
+    let put : length c.args.outs.now.grown ≡ 29 + length (texts before) = ap length d.grown ∙ behind_length before in
+    let within : length c.args.outs.now.grown + length (texts es) ≤ ((4611686018427387904 - c.end-room.result) - frame) + 29 = search rules in
     let grows : c.grow_on.new.self ≡ record c.args.outs.now { grown = c.args.outs.now.grown ++ texts es; appended = c.args.outs.now.appended ++ texts es } = search rules in
     let says : c.say.new.self ≡ record c.grow_on.new.self { reply = c.grow_on.new.self.reply ++ reply_text (view c.args.plan.reply) } = on_ok_is c.say.result _ (sym c.is_err.ensures.value ∙ c.if-is_err.false) c.say.ensures in
     let holds : Holds c.self.inside.state es c.apply.new.self = on_ok_is c.apply.result _ (sym c.is_err-2.ensures.value ∙ c.if-is_err-2.false) c.apply.ensures.ok in

@@ -1,10 +1,11 @@
 use Rattle.std.proofs.Common.{◌≡◌, not, length, ap, subst, ◌∙◌}
+use Rattle.std.proofs.lemmas.Result.{IfOk-weaker}
 use Rattle.mr_info.specs.Info.{info_text}
 use Rattle.mr_links.specs.Links.{Links}
 use Rattle.mr_node_links.specs.State.{EndState}
 use Rattle.mr_node_links.specs.Replicas.{Lists}
 use Rattle.mr_node_spec.specs.State.{NodeState}
-use Rattle.mr_node.proofs.Telling.{if_ok_map, info_told}
+use Rattle.mr_node.proofs.Telling.{info_told}
 use Rattle.mr_node.proofs.node.Node.info_text.Goals as goal
 
 pub returns : goal.returns
@@ -16,4 +17,4 @@ returns c =
     let lineage : c.lineage-lineage.result.now ≡ a.core.lineage = c.lineage-lineage.ensures ∙ ap (λ (z : NodeState). z.core.lineage) c.self.view_is in
     let whole : record { id = c.id.result; second = c.second.result; stream = c.stream.result.now } ≡ a.core.lineage = (λ i. record { id = c.id.ensures i; second = c.second.ensures.second i; stream = c.stream.ensures i }) ∙ lineage in
     let listed : Lists names a.ends.open_links = subst (λ (z : Links EndState). Lists names z.open_links) ends c.replicas.ensures in
-    if_ok_map c.info.result (λ text told. info_told a text.items names listed (told ∙ (λ i. info_text (not (master i)) (length names) (whole i)))) c.info.ensures
+    IfOk-weaker c.info.result _ _ (λ text told. info_told a text.items names listed (told ∙ (λ i. info_text (not (master i)) (length names) (whole i)))) c.info.ensures

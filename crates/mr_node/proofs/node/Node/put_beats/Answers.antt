@@ -17,7 +17,7 @@ returns c =
     let held : c.held.result.now ≡ a.core.held = search rules in
     let now : to_z w64 (of_z w64 c.args.now) ≡ c.args.now = to_z-of_z w64 c.args.now c.ranges.now in
     let dooms : Doomed a.core.held c.args.now (room_in a.core) c.in_ok-effects.field-0 c.doomed.new.outs =
-    doomed_at a c.held.result.now c.args.now room c.in_ok-effects.field-0 c.doomed.new.outs held room_is (subst (λ (z : ℤ). Doomed c.held.result.now z room c.in_ok-effects.field-0 c.doomed.new.outs) now c.in_ok-effects.ensures) in
+    doomed_at a c.held.result.now c.args.now room c.in_ok-effects.field-0 c.doomed.new.outs held room_is (subst (λ (z : ℤ). Doomed c.held.result.now z room c.in_ok-effects.field-0 c.doomed.new.outs) now c.in_ok-effects.ensures.deletions) in
     let since : SinceBeat a c.args.now c.in_ok-effects.field-0.whole c.since_beat.result = subst (λ (z : ℤ). SinceBeat a z c.in_ok-effects.field-0.whole c.since_beat.result) now c.since_beat.ensures in
     let writes : Writes a c.args.now c.match-since_beat.effects.items c.match-since_beat.marks c.match-since_beat.outs = elim c.match-since_beat.branch [
       | in-Waiting w ↦ writes_as a c.args.now w.effects-is w.marks-is w.outs-is (writes_waiting a c.args.now c.in_ok-effects.field-0 c.doomed.new.outs dooms since w.in-Waiting.is)
@@ -27,4 +27,4 @@ returns c =
       | in-Passed+in_ok-beat-in-Passed+else-branch w ↦ writes_as a c.args.now w.effects-is w.marks-is w.outs-is
           (writes_full a c.args.now c.in_ok-effects.field-0 c.doomed.new.outs dooms w.beat.new.self room w.in_ok-beat-in-Passed.field-0 since w.in-Passed.is room_is w.in_ok-beat-in-Passed.ensures.fits w.in_ok-beat-in-Passed.ensures.outs w.if-branch.false)
     ] in
-    puts a c.args.now (record { effects = c.match-since_beat.effects; marks = c.match-since_beat.marks }) c.match-since_beat.outs c.feed_replicas.new.outs within writes c.in_ok-feed_replicas.ensures
+    record { puts = puts a c.args.now (record { effects = c.match-since_beat.effects; marks = c.match-since_beat.marks }) c.match-since_beat.outs c.feed_replicas.new.outs within writes c.in_ok-feed_replicas.ensures.feeds; lacks = tt }

@@ -3,7 +3,7 @@ use Rattle.std.proofs.lemmas.Int.{to_z-of_z}
 use Rattle.mr_node_output.specs.Outs.{OutsState, no_outs}
 use Rattle.mr_node_spec.specs.State.{NodeState}
 use Rattle.mr_node_spec.specs.Acknowledging.{acknowledgement}
-use Rattle.mr_node_spec.specs.TimeRows.{HasPassed, IsStreaming, IsUnmarked, IsWaiting, Rests, TickRow, acknowledge_after}
+use Rattle.mr_node_spec.specs.TimeRows.{HasDue, HasPassed, IsStreaming, IsUnmarked, IsWaiting, Rests, TickRow, acknowledge_after}
 use Rattle.mr_node_state.specs.Parts.{marked_at}
 use Rattle.mr_node.proofs.node.Node.rest.Goals as goal
 use Rattle.mr_node.proofs.node.Node.rest.Goals.{in-Waiting, in-Unmarked, in-Passed+in-Some+else-is_err}
@@ -16,6 +16,14 @@ returns-in_default c =
     subst (λ (m : Option ℤ). HasPassed m c.args.now acknowledge_after) mark (subst (λ (z : ℤ). HasPassed c.mark.result z acknowledge_after) (to_z-of_z w64 c.args.now c.ranges.now) c.in-Passed.ensures) in
     TickRow.rests c.requires.up c.requires.replica c.args.self.now.core.mark
     (Rests.apart (λ l is. c.in_default.ensures.none l (subst (λ (z : NodeState). IsStreaming z l) (sym same) is)) passed refl c.fresh_outs-outs.ensures.outs) same
+
+pub returns-then-is_err : goal.returns-then-is_err
+returns-then-is_err c =
+    let same : c.fresh_outs-outs.new.self ≡ c.args.self.now = c.fresh_outs-outs.ensures.same in
+    let mark : c.mark.result ≡ c.args.self.now.core.mark = c.mark.ensures ∙ ap (λ (z : NodeState). z.core.mark) (c.self.view_is ∙ same) in
+    let passed : HasPassed c.args.self.now.core.mark c.args.now acknowledge_after =
+    subst (λ (m : Option ℤ). HasPassed m c.args.now acknowledge_after) mark (subst (λ (z : ℤ). HasPassed c.mark.result z acknowledge_after) (to_z-of_z w64 c.args.now c.ranges.now) c.in-Passed.ensures) in
+    (c.requires.up, same, HasDue.acknowledges c.requires.replica c.in-Some.link (subst (λ (z : NodeState). IsStreaming z c.in-Some.link) same c.in-Some.ensures.some) passed)
 
 pub returns : goal.returns
 returns c =

@@ -4,6 +4,7 @@ use Rattle.mr_node_links.specs.State.EndState.{client}
 use Rattle.mr_node_output.specs.Outs.{OutsState}
 use Rattle.mr_node_spec.specs.State.{NodeState, end_of}
 use Rattle.mr_node.specs.Steps.{ClientStep, step_of}
+use Rattle.mr_commands.specs.declared.requests.Answer.TheVariants as answer
 use Rattle.mr_node.specs.declared.todo.Todo.TheVariants as todo
 use Rattle.mr_node.proofs.Ends.{ahead_of, client_of}
 use Rattle.mr_node.proofs.Reading.{found_as}
@@ -27,31 +28,31 @@ skip-requires c =
 pub rewrite-requires-clause-ahead : goal.rewrite-requires-clause-ahead
 rewrite-requires-clause-ahead c =
     let u = c.requires.at.0 in let at = c.requires.at.1 in
-    let todo = found_as (not c.args.self.now.core.master) u c.args.given c.args.self.now.core.held c.in-Ok.todo (todo.Rewrite c.in-Rewrite.used) c.in-Rewrite.is (c.in-Ok.ensures u at.agrees) in
-    ahead_of c.args.self.now c.args.link u c.in-Rewrite.used at.agrees todo.0.reads.enough
+    let todo = found_as (not c.args.self.now.core.master) u c.args.given c.args.self.now.core.held c.in-Ok.todo (todo.Do c.in-Do.used answer.Rewrite) (c.in-Do.is ∙ ap (todo.Do c.in-Do.used) c.in-Rewrite.is) (c.in-Ok.ensures u at.agrees) in
+    ahead_of c.args.self.now c.args.link u c.in-Do.used at.agrees todo.0.reads.enough
 
 pub tell-requires-clause-ahead : goal.tell-requires-clause-ahead
 tell-requires-clause-ahead c =
     let u = c.requires.at.0 in let at = c.requires.at.1 in
-    let todo = found_as (not c.args.self.now.core.master) u c.args.given c.args.self.now.core.held c.in-Ok.todo (todo.Tell c.in-Tell.used c.in-Tell.question) c.in-Tell.is (c.in-Ok.ensures u at.agrees) in
-    ahead_of c.args.self.now c.args.link u c.in-Tell.used at.agrees todo.0.reads.enough
+    let todo = found_as (not c.args.self.now.core.master) u c.args.given c.args.self.now.core.held c.in-Ok.todo (todo.Do c.in-Do.used (answer.Tell c.in-Tell.question)) (c.in-Do.is ∙ ap (todo.Do c.in-Do.used) c.in-Tell.is) (c.in-Ok.ensures u at.agrees) in
+    ahead_of c.args.self.now c.args.link u c.in-Do.used at.agrees todo.0.reads.enough
 
 pub halt-requires-clause-ahead : goal.halt-requires-clause-ahead
 halt-requires-clause-ahead c =
     let u = c.requires.at.0 in let at = c.requires.at.1 in
-    let todo = found_as (not c.args.self.now.core.master) u c.args.given c.args.self.now.core.held c.in-Ok.todo (todo.Halt c.in-Halt.used) c.in-Halt.is (c.in-Ok.ensures u at.agrees) in
-    ahead_of c.args.self.now c.args.link u c.in-Halt.used at.agrees todo.0.reads.enough
+    let todo = found_as (not c.args.self.now.core.master) u c.args.given c.args.self.now.core.held c.in-Ok.todo (todo.Do c.in-Do.used answer.Halt) (c.in-Do.is ∙ ap (todo.Do c.in-Do.used) c.in-Halt.is) (c.in-Ok.ensures u at.agrees) in
+    ahead_of c.args.self.now c.args.link u c.in-Do.used at.agrees todo.0.reads.enough
 
 pub run-requires-clause-ahead : goal.run-requires-clause-ahead
 run-requires-clause-ahead c =
     let u = c.requires.at.0 in let at = c.requires.at.1 in
-    let todo = found_as (not c.args.self.now.core.master) u c.args.given c.args.self.now.core.held c.in-Ok.todo (todo.Run c.in-Run.used c.in-Run.plan) c.in-Run.is (c.in-Ok.ensures u at.agrees) in
-    ahead_of c.args.self.now c.args.link u c.in-Run.used at.agrees todo.0.reads.enough
+    let todo = found_as (not c.args.self.now.core.master) u c.args.given c.args.self.now.core.held c.in-Ok.todo (todo.Do c.in-Do.used (answer.Run c.in-Run.plan)) (c.in-Do.is ∙ ap (todo.Do c.in-Do.used) c.in-Run.is) (c.in-Ok.ensures u at.agrees) in
+    ahead_of c.args.self.now c.args.link u c.in-Do.used at.agrees todo.0.reads.enough
 
 pub run-requires-clause-leads : goal.run-requires-clause-leads
 run-requires-clause-leads c =
     let u = c.requires.at.0 in let at = c.requires.at.1 in
-    let todo = found_as (not c.args.self.now.core.master) u c.args.given c.args.self.now.core.held c.in-Ok.todo (todo.Run c.in-Run.used c.in-Run.plan) c.in-Run.is (c.in-Ok.ensures u at.agrees) in
+    let todo = found_as (not c.args.self.now.core.master) u c.args.given c.args.self.now.core.held c.in-Ok.todo (todo.Do c.in-Do.used (answer.Run c.in-Run.plan)) (c.in-Do.is ∙ ap (todo.Do c.in-Do.used) c.in-Run.is) (c.in-Ok.ensures u at.agrees) in
     (_, todo.0.plan.leads)
 
 pub ask-requires-clause-client : goal.ask-requires-clause-client
@@ -73,22 +74,22 @@ returns-in-Refuse c = λ u at.
 
 pub returns-in-Quit : goal.returns-in-Quit
 returns-in-Quit c = λ u at.
-    let todo = found_as (not c.args.self.now.core.master) u c.args.given c.args.self.now.core.held c.in-Ok.todo (todo.Quit) c.in-Quit.is (c.in-Ok.ensures u at.agrees) in
+    let todo = found_as (not c.args.self.now.core.master) u c.args.given c.args.self.now.core.held c.in-Ok.todo (todo.Do c.in-Do.used answer.Quit) (c.in-Do.is ∙ ap (todo.Do c.in-Do.used) c.in-Quit.is) (c.in-Ok.ensures u at.agrees) in
     c.quit.ensures.client u c.args.given c.args.fresh at todo.0
 
 pub returns-in-Rewrite : goal.returns-in-Rewrite
 returns-in-Rewrite c = λ u at.
-    let todo = found_as (not c.args.self.now.core.master) u c.args.given c.args.self.now.core.held c.in-Ok.todo (todo.Rewrite c.in-Rewrite.used) c.in-Rewrite.is (c.in-Ok.ensures u at.agrees) in
+    let todo = found_as (not c.args.self.now.core.master) u c.args.given c.args.self.now.core.held c.in-Ok.todo (todo.Do c.in-Do.used answer.Rewrite) (c.in-Do.is ∙ ap (todo.Do c.in-Do.used) c.in-Rewrite.is) (c.in-Ok.ensures u at.agrees) in
     c.rewrite.ensures u c.args.given c.args.fresh at todo.0
 
 pub returns-in-Tell : goal.returns-in-Tell
 returns-in-Tell c = λ u at.
-    let todo = found_as (not c.args.self.now.core.master) u c.args.given c.args.self.now.core.held c.in-Ok.todo (todo.Tell c.in-Tell.used c.in-Tell.question) c.in-Tell.is (c.in-Ok.ensures u at.agrees) in
+    let todo = found_as (not c.args.self.now.core.master) u c.args.given c.args.self.now.core.held c.in-Ok.todo (todo.Do c.in-Do.used (answer.Tell c.in-Tell.question)) (c.in-Do.is ∙ ap (todo.Do c.in-Do.used) c.in-Tell.is) (c.in-Ok.ensures u at.agrees) in
     c.tell.ensures u c.args.given c.args.fresh at todo.0
 
 pub returns-in-Halt : goal.returns-in-Halt
 returns-in-Halt c = λ u at.
-    let todo = found_as (not c.args.self.now.core.master) u c.args.given c.args.self.now.core.held c.in-Ok.todo (todo.Halt c.in-Halt.used) c.in-Halt.is (c.in-Ok.ensures u at.agrees) in
+    let todo = found_as (not c.args.self.now.core.master) u c.args.given c.args.self.now.core.held c.in-Ok.todo (todo.Do c.in-Do.used answer.Halt) (c.in-Do.is ∙ ap (todo.Do c.in-Do.used) c.in-Halt.is) (c.in-Ok.ensures u at.agrees) in
     c.halt.ensures u c.args.given c.args.fresh at todo.0
 
 pub returns-in-Ask : goal.returns-in-Ask
