@@ -139,12 +139,15 @@ impl FollowNotice {
         if followed.copied > 0 {
             self.way = Way::Streaming;
             self.told = None;
-            let (keys, bytes) = (node.key_count(), followed.bytes);
+            let bytes = followed.bytes;
             let took = Seconds(self.since(notices));
-            notices.tell(&format_args!(
-                "replica of {}, whole copy of {keys} keys, {bytes} bytes, in {took} s",
-                ShownAddress(of)
-            ));
+            // a node that stopped since tells of no keys
+            if let Some(keys) = node.key_count() {
+                notices.tell(&format_args!(
+                    "replica of {}, whole copy of {keys} keys, {bytes} bytes, in {took} s",
+                    ShownAddress(of)
+                ));
+            }
         }
         if followed.continued > 0 {
             self.way = Way::Streaming;

@@ -16,7 +16,7 @@ mod roles;
 mod served;
 mod telling;
 mod told_wire;
-mod turns;
+mod watching;
 
 use failure::Failure;
 use help::answer;

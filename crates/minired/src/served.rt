@@ -7,11 +7,11 @@ use crate::kept_file::SeesChange;
 use crate::obeying::follow;
 use crate::telling::Telling;
 use crate::told_wire::ToldWire;
-use crate::turns::serve_turns;
+use crate::watching::Watching;
 use mr_aof::Log;
 use mr_data::Dataset;
 use mr_file::LogFile;
-use mr_loop::{Links, LoopFault};
+use mr_loop::{Links, LoopFault, serve};
 use mr_node::{Config, Node, Role};
 use mr_notices::Notices;
 use mr_options::ServeOptions;
@@ -82,17 +82,20 @@ fn serve_node<F: LogFile + SeesChange>(
         return Err(Failure::Loop(LoopFault::Stopped));
     }
     tell_ready(rt, &mut telling, options, keys);
-    let ended = serve_turns(
-        &mut telling,
+    let turns = options.turns;
+    let mut watching = Watching { telling, turns };
+    let ended = serve(
         &mut node,
         &mut links,
         &mut wire,
         log,
         &mut source,
-        options.turns,
+        &mut watching,
     );
+    let Watching { mut telling, .. } = watching;
     match ended {
         Ok(()) => {
+            telling.end();
             tell_end(&mut telling, links.halted());
             Ok(())
         }

@@ -189,7 +189,7 @@ impl Wire for ToldWire {
 
     ghost failures = { λ w. w.wire.failed.count };
 
-    ghost waited = { λ _. 0 };
+    ghost waited = { λ _. record { times = 0; millis = 0 } };
 
     fn wait(&mut self, millis: u64) -> Result<(), Failed> {
         self.pass();

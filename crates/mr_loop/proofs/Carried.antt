@@ -1,5 +1,6 @@
 -- What stays as outs are carried out.
 use Rattle.std.proofs.Common.{◌≡◌, ◌++◌, ℕ, List, [], ◌∷◌, Bool, true, false, ◌||◌, Option, None, Some, refl, sym, ap, subst, ◌∙◌}
+use Rattle.std.proofs.Math.Bool.{or-true}
 use Rattle.mr_links.specs.declared.link_id.LinkId.{LinkId}
 use Rattle.mr_node_output.specs.Address.{AddressState}
 use Rattle.mr_node_output.specs.Outs.{OutState, OutsState, grow, append, replace, send, close, use_id, follow, halt, outs_of, grown_outs, appended_outs, replaced_outs, fed_outs, sent_outs, closing_outs, closed_outs, used_outs, followed_outs, halted_outs}
@@ -74,10 +75,6 @@ halts (use_id id ∷ outs) = halts outs
 halts (follow address ∷ outs) = halts outs
 halts (halt ∷ outs) = true
 
-or_true : (b : Bool) → (b || true) ≡ true
-or_true true = refl
-or_true false = refl
-
 pub carried_halts : (outs : List OutState) (s t : Stage) → Carried outs s t → t.own.halted ≡ (halts outs || s.own.halted)
 carried_halts [] s t c = ap (λ (z : Stage). z.own.halted) c
 carried_halts (grow bytes ∷ outs) s t c = carried_halts outs c.0 t c.2 ∙ ap (λ b. halts outs || b) (ap (λ (z : Stage). z.own.halted) c.1)
@@ -87,7 +84,7 @@ carried_halts (send link bytes ∷ outs) s t c = carried_halts outs c.0 t c.2 �
 carried_halts (close link ∷ outs) s t c = carried_halts outs c.0 t c.2 ∙ ap (λ b. halts outs || b) (ap (λ (z : Stage). z.own.halted) c.1)
 carried_halts (use_id id ∷ outs) s t c = carried_halts outs c.0 t c.2 ∙ ap (λ b. halts outs || b) (ap (λ (z : Stage). z.own.halted) c.1)
 carried_halts (follow address ∷ outs) s t c = carried_halts outs c.0 t c.2 ∙ ap (λ b. halts outs || b) (ap (λ (z : Stage). z.own.halted) c.1)
-carried_halts (halt ∷ outs) s t c = carried_halts outs c.0 t c.2 ∙ (ap (λ b. halts outs || b) (ap (λ (z : Stage). z.own.halted) c.1) ∙ or_true (halts outs))
+carried_halts (halt ∷ outs) s t c = carried_halts outs c.0 t c.2 ∙ (ap (λ b. halts outs || b) (ap (λ (z : Stage). z.own.halted) c.1) ∙ or-true (halts outs))
 
 -- only the last kind of out ends it
 halts_append : (xs ys : List OutState) → halts (xs ++ ys) ≡ (halts xs || halts ys)

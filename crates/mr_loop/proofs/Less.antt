@@ -44,7 +44,7 @@ use Rattle.mr_node.specs.declared.step.Step.TheVariants as step
 use Rattle.mr_loop.specs.Stage.{Stage}
 use Rattle.mr_loop.specs.Carrying.{Carried}
 use Rattle.mr_loop.specs.Causes.{Stepped}
-use Rattle.mr_loop.specs.Quiet.{left_at, left_in, left_of, taken_in}
+use Rattle.mr_loop.specs.Quiet.{left_at, left_in, left_of, taken_so_far}
 use Rattle.mr_loop.proofs.Carried.{carried_node}
 use Rattle.mr_loop.proofs.Stepped.{Heard, followed_end, heard}
 use Rattle.mr_loop.proofs.Waiting.{itself, some_is}
@@ -143,7 +143,7 @@ replica_less a b l u outs ag (parts s) = less_by a b l _ _ (replica_left ag) (ap
 -- ---- the link to the master
 
 -- so many bytes are unread there
-agreed_length : (p : Phase) (t : Option Taking) (kept u : List ℕ) → AgreesBy p t kept u → taken_in t + length kept ≡ length u
+agreed_length : (p : Phase) (t : Option Taking) (kept u : List ℕ) → AgreesBy p t kept u → taken_so_far t + length kept ≡ length u
 agreed_length p None kept u by = let e : length u ≡ length kept = ap length by in omega (arith, e)
 agreed_length Ping (Some t) kept u by = absurd by
 agreed_length Port (Some t) kept u by = absurd by
@@ -153,7 +153,7 @@ agreed_length (Snapshot id offset) (Some t) kept u by = omega (arith, ap length 
 agreed_length Stream (Some t) kept u by = absurd by
 
 read_left : (l : LinkId) (f : FollowState) (u : List ℕ) → FollowAgrees f u → left_of l (Some (l, f)) ≡ length u
-read_left l f u agrees = ap (λ b. if b then taken_in f.taking + length f.kept else 0) (itself l) ∙ agreed_length f.phase f.taking f.kept u agrees.by
+read_left l f u agrees = ap (λ b. if b then taken_so_far f.taking + length f.kept else 0) (itself l) ∙ agreed_length f.phase f.taking f.kept u agrees.by
 
 -- by what came there is less, or nobody is followed
 heard_less : (a b : NodeState) (l : LinkId) (u : List ℕ) (came : UpstreamStep) (h : Heard a l u came b) → FollowAgrees h.reader u → end_of a l ≡ Some upstream → end_of b l ≡ Some upstream → (g : FollowState) → b.follow ≡ Some (l, g) → (rest : List ℕ) → FollowAgrees g rest → length rest < length u → left_at b l < left_at a l

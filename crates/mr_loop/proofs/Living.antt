@@ -32,21 +32,21 @@ use Rattle.mr_loop.proofs.Halting.{no_fault}
 abbrev pub is_up : NodeState → Bool
 is_up a = a.core.up
 
-by_core : {c d : Core} → d ≡ c → d.up ≡ c.up
+pub by_core : {c d : Core} → d ≡ c → d.up ≡ c.up
 by_core e = ap (λ (z : Core). z.up) e
 
-answered_up : (c d : Core) (around : Around) (words : List (List ℕ)) (given : Given) (out : Output) → Answered c around words given d out → d.up ≡ c.up
+pub answered_up : (c d : Core) (around : Around) (words : List (List ℕ)) (given : Given) (out : Output) → Answered c around words given d out → d.up ≡ c.up
 answered_up c d around words given out (within plain reply effects plan fits core outs) = by_core core
 answered_up c d around words given out (beyond plain reply effects plan fits core outs) = by_core core
 answered_up c d around words given out (rewritten is remakes core outs) = by_core core
 answered_up c d around words given out (told_of question is core outs) = by_core core
 answered_up c d around words given out (keeps_role wish asks quiet core) = by_core core
 
-served_up : (c d : Core) (around : Around) (u rest : List ℕ) (given : Given) (out : Output) → Served c around u given d rest out → d.up ≡ c.up
+pub served_up : (c d : Core) (around : Around) (u rest : List ℕ) (given : Given) (out : Output) → Served c around u given d rest out → d.up ≡ c.up
 served_up c d around u rest given out (request words asks answered) = answered_up c d around words given out answered
 served_up c d around u rest given out (nothing asks core outs) = by_core core
 
-row_up : (a b : NodeState) (l : LinkId) (u : List ℕ) (given : Given) (fresh : List ℕ) (outs : OutsState) → ClientRow a l u given fresh b outs → b.core.up ≡ a.core.up
+pub row_up : (a b : NodeState) (l : LinkId) (u : List ℕ) (given : Given) (fresh : List ℕ) (outs : OutsState) → ClientRow a l u given fresh b outs → b.core.up ≡ a.core.up
 row_up a b l u given fresh outs (serves s) = served_up a.core b.core s.around u s.rest given s.out s.served
 row_up a b l u given fresh outs (shuts s) = by_core s.core
 row_up a b l u given fresh outs (halts s) = by_core s.core
@@ -145,13 +145,13 @@ ended_up (Some l) a = refl
 dropped_up : {socket : LinkId} {link : Option LinkId} {s t : Stage} → Dropped socket link s t → t.node.core.up ≡ s.node.core.up
 dropped_up {socket} {link} {s} d = ap is_up d.node ∙ ended_up link s.node
 
-done_stops : {outs : OutsState} → ◌≡◌ {A = Result Step NodeFault} (Ok (step.Done outs)) (Err refusal.Stopped) → ⊥
+pub done_stops : {outs : OutsState} → ◌≡◌ {A = Result Step NodeFault} (Ok (step.Done outs)) (Err refusal.Stopped) → ⊥
 done_stops e = cc
 
-idle_stops : ◌≡◌ {A = Result Step NodeFault} (Ok step.Idle) (Err refusal.Stopped) → ⊥
+pub idle_stops : ◌≡◌ {A = Result Step NodeFault} (Ok step.Idle) (Err refusal.Stopped) → ⊥
 idle_stops e = cc
 
-memory_stops : ◌≡◌ {A = Result Step NodeFault} (Err refusal.Memory) (Err refusal.Stopped) → ⊥
+pub memory_stops : ◌≡◌ {A = Result Step NodeFault} (Err refusal.Memory) (Err refusal.Stopped) → ⊥
 memory_stops e = cc
 
 called_up : (act : Act) (s m : Stage) (outs : OutsState) → Calls act s m outs → m.node.core.up ≡ s.node.core.up

@@ -1,15 +1,10 @@
 -- No bytes.
-use Rattle.std.proofs.Common.{rules, ℕ, List, [], ◌∷◌, refl, inl, inr, lit<, Option}
+use Rattle.std.proofs.Common.{ℕ, List, [], refl, Option}
 use Rattle.mr_inline.specs.Language.{Continues}
 use Rattle.mr_peer_lines.specs.Lines.{IsLineText}
 use Rattle.mr_peer_lines.proofs.Ends.{nothing_yet}
 use Rattle.mr_follower.specs.State.{started}
-use Rattle.mr_node_spec.specs.Requests.{Waits}
 use Rattle.mr_loop.specs.Quiet.{Awaits}
-
--- a request may follow nothing
-pub waits_nothing : Waits []
-waits_nothing = record { more = record { more = 42 ∷ 45 ∷ 49 ∷ 13 ∷ 10 ∷ []; some = lit< tt; are_bytes = search rules; whole = inr (inl (inr refl)) } }
 
 -- .. and a line may
 pub line_nothing : Continues IsLineText []

@@ -330,7 +330,7 @@ lacks_others a b l u m h q =
           };
     }
 
-memory_closed : ◌≡◌ {A = Result Step NodeFault} (Err refusal.Memory) (Ok step.Closed) → ⊥
+pub memory_closed : ◌≡◌ {A = Result Step NodeFault} (Err refusal.Memory) (Ok step.Closed) → ⊥
 memory_closed e = cc
 
 memory_others : (a b : NodeState) (l : LinkId) (u : List ℕ) (given : Given) (fresh : List ℕ) → a.core.up ≡ true → Agreeing a l u → Steps a l given fresh b (Err refusal.Memory) → OthersWait a l → OthersWait b l

@@ -354,7 +354,7 @@ carries_synced halt s t c whole = synced_same s t (ap (λ (z : Stage). z.told) c
 
 -- ---- the file, event by event
 
-batch_of : {o p : LoopState} → p ≡ o → p.batch ≡ o.batch
+pub batch_of : {o p : LoopState} → p ≡ o → p.batch ≡ o.batch
 batch_of e = ap (λ (z : LoopState). z.batch) e
 
 module _ (tells : Bool) (mode : SyncMode) where

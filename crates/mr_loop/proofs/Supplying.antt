@@ -7,7 +7,7 @@ use Rattle.mr_source.specs.Drawn.{DrawnState, with_id, with_moment, with_more}
 use Rattle.mr_loop.specs.declared.followed.News.{News}
 use Rattle.mr_loop.specs.Causes.{Act, at_step, at_tick, at_dial, Stop, stops_at_step, stops_at_tick, stops_at_open, was_down}
 use Rattle.mr_loop.specs.Rows.{Event, acts, idles, is_refused, spills, stops, tears, wakes}
-use Rattle.mr_loop.specs.Giving.{AllGiven, AreAmong, IsGiven, IsGivenAct, IsGivenStep, IsGivenStop, Rises, Supplies, TakesEachOnce, listed, moments_by, moments_in, taken_by, taken_in}
+use Rattle.mr_loop.specs.Giving.{AllGiven, AreAmong, IsGiven, IsGivenAct, IsGivenStep, IsGivenStop, Rises, Supplies, TakesEachOnce, listed, moments_by, moments_in, taken_by, ids_taken_in}
 use Rattle.mr_loop.specs.Counting.{MomentState, Renewed, taken}
 use Rattle.mr_loop.specs.Outcomes.{TurnsGoForward, TurnsTakeEachOnce, moments_over, taken_over}
 
@@ -198,7 +198,7 @@ event_takes ids left _ g = g
 
 pub takes_each_once : TakesEachOnce
 takes_each_once ids left [] g = g
-takes_each_once ids left (e ∷ es) g = append_assoc (taken_by e) (taken_in es) left ∙ (ap (λ (z : List (List ℕ)). taken_by e ++ z) (takes_each_once g.0 left es g.2) ∙ event_takes ids g.0 e g.1)
+takes_each_once ids left (e ∷ es) g = append_assoc (taken_by e) (ids_taken_in es) left ∙ (ap (λ (z : List (List ℕ)). taken_by e ++ z) (takes_each_once g.0 left es g.2) ∙ event_takes ids g.0 e g.1)
 
 -- ---- .. over turns
 
@@ -215,8 +215,8 @@ among_append ids more [] ys none f = subst (λ (z : List (List ℕ)). AreAmong (
 among_append ids more (x ∷ xs) ys (inl h) f = inl (among_append ids more xs ys h f)
 among_append ids more (x ∷ xs) ys (inr h) f = inr (h.0 ++ more, ap (λ (z : List (List ℕ)). z ++ more) h.1, among_append h.0 more xs ys h.2 f)
 
-among_given : (ids left : List (List ℕ)) (es : List Event) → AllGiven ids es left → AreAmong (taken_in es) ids
-among_given ids left es g = subst (λ (z : List (List ℕ)). AreAmong (taken_in es) z) (takes_each_once ids left es g) (among_front (taken_in es) left)
+among_given : (ids left : List (List ℕ)) (es : List Event) → AllGiven ids es left → AreAmong (ids_taken_in es) ids
+among_given ids left es g = subst (λ (z : List (List ℕ)). AreAmong (ids_taken_in es) z) (takes_each_once ids left es g) (among_front (ids_taken_in es) left)
 
 pub turns_take_each_once : TurnsTakeEachOnce
 turns_take_each_once tells mode zero drawn after s t turns = record { given = []; is = ap (λ (d : DrawnState). d.ids) turns.1 ∙ with_none drawn.ids; among = refl }
@@ -225,7 +225,7 @@ turns_take_each_once tells mode (suc n) drawn after s t turns =
     let last = turns.3.tells_of.given in record {
       given = before.given ++ last.ids;
       is = more_told before.given last.ids drawn.ids turns.1.ids after.ids before.is last.gives;
-      among = among_append (taken_over tells mode n drawn turns.1 s turns.0 turns.2) (taken_in turns.3.tells_of.went.events) before.given last.ids before.among
+      among = among_append (taken_over tells mode n drawn turns.1 s turns.0 turns.2) (ids_taken_in turns.3.tells_of.went.events) before.given last.ids before.among
           (among_given last.ids turns.3.tells_of.left turns.3.tells_of.went.events last.each);
     }
 

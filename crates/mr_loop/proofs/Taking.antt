@@ -69,7 +69,7 @@ master_takes up.Applied l told = refl
 master_takes up.Left l told = refl
 master_takes up.Spoiled l told = refl
 
-done_closed : (outs : OutsState) → ◌≡◌ {A = Result Step NodeFault} (Ok (step.Done outs)) (Ok step.Closed) → ⊥
+pub done_closed : (outs : OutsState) → ◌≡◌ {A = Result Step NodeFault} (Ok (step.Done outs)) (Ok step.Closed) → ⊥
 done_closed outs e = cc
 
 takes_at : (a b : NodeState) (l : LinkId) (u : List ℕ) (given : Given) (fresh : List ℕ) (outs : OutsState) → a.core.up ≡ true → Agreeing a l u → Steps a l given fresh b (Ok (step.Done outs)) → (outs.used ≡ None) ⊎ (outs.used ≡ Some fresh)

@@ -18,7 +18,7 @@ use Rattle.mr_node_output.specs.Outs.{OutsState, outs_of}
 use Rattle.mr_node_spec.specs.Sound.{IsSound}
 use Rattle.mr_node_spec.specs.Growing.{grown_by}
 use Rattle.mr_node_spec.specs.State.{Core, NodeState}
-use Rattle.mr_node_spec.specs.TimeRows.{Beats, Deletes, TickRow, deletes, doomed, rests, room_in}
+use Rattle.mr_node_spec.specs.TimeRows.{Beats, Deletes, HasDue, TickRow, deletes, doomed, rests, room_in}
 use Rattle.mr_node_spec.specs.TimeRows.Beats.{alone, beats, cut, marks, waits}
 use Rattle.mr_node.specs.Calls.{TickStep}
 use Rattle.mr_node.specs.declared.fault.NodeFault.{NodeFault}
@@ -129,6 +129,13 @@ missed_same a b now refusal.Stopped other row = absurd (other refl)
 missed_same a b now refusal.NoLink other row = absurd row
 missed_same a b now refusal.InputFull other row = absurd row
 
+-- .. and then something was due
+pub missed_due : (a b : NodeState) (now : ℤ) (e : NodeFault) → (e ≡ refusal.Stopped → ⊥) → TickStep a now b (Err e) → HasDue a now
+missed_due a b now refusal.Memory other row = row.2
+missed_due a b now refusal.Stopped other row = absurd (other refl)
+missed_due a b now refusal.NoLink other row = absurd row
+missed_due a b now refusal.InputFull other row = absurd row
+
 -- ---- one tick
 
 pub ticks_once : {tells : Bool} {mode : SyncMode} (s t : Stage) (n : NodeState) (given : Given) (outs : OutsState) (old mid new : MomentState) → TickRow s.node given.now n outs → IsSound n → Carried (outs_of outs) (record s { node = n }) t
@@ -150,7 +157,7 @@ ticks_once s t n given outs old mid new row sound carried forward one took =
     }
 
 -- one for which memory ran out
-pub misses_once : {tells : Bool} {mode : SyncMode} (s t : Stage) (given : Given) (old new : MomentState) → old.drawn.clock ≤ℤ given.now → new ≡ record old { drawn = with_moment given.now old.drawn } → MissesTick s t → Passes tells mode 1 1 old new s t
+pub misses_once : {tells : Bool} {mode : SyncMode} (s t : Stage) (given : Given) (old new : MomentState) → old.drawn.clock ≤ℤ given.now → new ≡ record old { drawn = with_moment given.now old.drawn } → MissesTick given s t → Passes tells mode 1 1 old new s t
 misses_once s t given old new forward same misses = record {
   counts = counts_event (misses_tick given) old new refl misses
       (gives_none (misses_tick given) old new refl (ap (λ (m : MomentState). m.fresh) same) (tells_one forward (ap (λ (m : MomentState). m.drawn) same)))

@@ -5,6 +5,7 @@ use Rattle.mr_data.specs.Due.{deletions}
 use Rattle.mr_source.specs.Drawn.{DrawnState}
 use Rattle.mr_node_spec.specs.State.{Core, NodeState}
 use Rattle.mr_node_spec.specs.TimeRows.{room_in}
+use Rattle.mr_wire.specs.declared.waited.Waited.{Waited}
 use Rattle.mr_wire.specs.Wire.{WireState}
 use Rattle.mr_loop.specs.declared.fault.LoopFault.{LoopFault}
 use Rattle.mr_loop.specs.declared.host.Host.{Host}
@@ -105,9 +106,9 @@ told_of {tells} {mode} {s} {t} {u} {v} {w} begun old mid new turn count missed m
 pub tells_broke : {tells : Bool} {mode : SyncMode} {s t : Stage} (old new : MomentState) (r : Result Turn LoopFault) (why : LoopFault) → r ≡ Err why → HasBroken tells mode why old new s t → DoesTelling tells mode r old new s t
 tells_broke {tells} {mode} {s} {t} old new r why e b = subst (λ (z : Result Turn LoopFault). DoesTelling tells mode z old new s t) (sym e) b
 
-module _ {W F S : Type 0} (tells : Bool) (links : W → WireState) (failures waited : W → ℕ) (told : F → Option (List ℕ)) (synced : F → Option ℕ) (drawn : S → DrawnState) where
+module _ {W F S : Type 0} (tells : Bool) (links : W → WireState) (failures : W → ℕ) (waited : W → Waited) (broke : F → ℕ) (told : F → Option (List ℕ)) (synced : F → Option ℕ) (drawn : S → DrawnState) where
   -- a fault behind ticks
-  pub passes_broke : {more : Bool} {most : ℕ} (a b c d : Host W F S) (why : LoopFault) → IsSame waited a b → Goes tells links failures told synced drawn a b → IsSame waited b c → PassesOn tells links failures told synced drawn more most b c
+  pub passes_broke : {more : Bool} {most : ℕ} (a b c d : Host W F S) (why : LoopFault) → IsSame waited broke a b → Goes tells links failures told synced drawn a b → IsSame waited broke b c → PassesOn tells links failures told synced drawn more most b c
       → HasBroken tells c.log.now.mode why (moment_in drawn c) (moment_in drawn d) (stage_in links failures told synced c) (stage_in links failures told synced d)
       → HasBroken tells a.log.now.mode why (moment_in drawn a) (moment_in drawn d) (stage_in links failures told synced a) (stage_in links failures told synced d)
   passes_broke a b c d why same x on p y =

@@ -4,6 +4,7 @@ use Rattle.std.specs.Ordering.{eq_by_cmp}
 use Rattle.std.specs.FinMap.{get, get-insert, get-remove}
 use Rattle.std.proofs.lemmas.Cmp.{eq_by_cmp_equiv}
 use Rattle.std.proofs.lemmas.Map.Views.{tells_apart}
+pub use Rattle.std.proofs.lemmas.Option.{same_Some as some_is, none-some as none_some}
 use Rattle.mr_links.specs.LinkId.{id_cmp}
 use Rattle.mr_links.specs.Links.{Links}
 use Rattle.mr_links.specs.declared.link_id.LinkId.{LinkId}
@@ -17,18 +18,13 @@ use Rattle.mr_node_spec.specs.State.{NodeState, OthersStay, end_of}
 use Rattle.mr_node_spec.specs.LinkRows.{Opens, Dials, Feeds, closed_at, follow_without}
 use Rattle.mr_node_spec.specs.Requests.{Waits}
 use Rattle.mr_node_spec.specs.TimeRows.{TickRow, deletes, rests}
+use Rattle.mr_node_spec.proofs.Nothing.{waits_nothing}
 use Rattle.mr_loop.specs.Stage.{Stage}
 use Rattle.mr_loop.specs.Carrying.{Carried}
 use Rattle.mr_loop.specs.Causes.{Fed, TurnsOff, dials_and_closes, ended_at, opens_and_closes, stays}
 use Rattle.mr_loop.specs.Quiet.{AllWait, Awaits, IsStill, OthersWait}
 use Rattle.mr_loop.proofs.Carried.{carried_node}
-use Rattle.mr_loop.proofs.Nothing.{awaits_first, waits_nothing}
-
-pub some_is : {A : Type 0} (x y : A) → ◌≡◌ {A = Option A} (Some x) (Some y) → x ≡ y
-some_is x y e = cc
-
-pub none_some : {A : Type 0} (x : A) → ◌≡◌ {A = Option A} None (Some x) → ⊥
-none_some x e = cc
+use Rattle.mr_loop.proofs.Nothing.{awaits_first}
 
 client_is : (u v : List ℕ) → client u ≡ client v → u ≡ v
 client_is u v e = cc

@@ -8,7 +8,7 @@ use Rattle.mr_links.specs.declared.link_id.LinkId.{LinkId}
 use Rattle.mr_links.proofs.LinkRows.{ids_total}
 use Rattle.mr_file.specs.declared.sync_mode.SyncMode.{SyncMode}
 use Rattle.mr_node_output.specs.Outs.{OutState, OutsState, grow, append, replace, send, close, use_id, follow, halt, outs_of}
-use Rattle.mr_wire.specs.Wire.{LinkState, Opens, WireState, asked_link, behind_read, behind_write, count_of, new_link, sent_by, sent_on}
+use Rattle.mr_wire.specs.Wire.{LinkState, Opens, WireState, asked_link, behind_read, behind_write, count_of, new_link, bytes_moved, sent_on}
 use Rattle.mr_wire.specs.declared.wire.Moved.{Moved}
 use Rattle.mr_wire.specs.declared.wire.Moved.TheVariants as answered
 use Rattle.mr_connections.specs.State.{ConnectionState, Rows, begun, changed, left, pushed, where_linked, with_each, wrote}
@@ -151,8 +151,8 @@ module _ (tells : Bool) (mode : SyncMode) where
   sockets_kept (acts act outs) s t held goes_on h = carried_by HaveSockets carries_sockets (outs_of outs) h.called t h.carried (called_sockets act s h.called outs h.calls held)
   sockets_kept (spills act outs) s t held goes_on h = absurd (no_fault goes_on)
   sockets_kept (tears act outs) s t held goes_on h = absurd (no_fault goes_on)
-  sockets_kept (writes j bytes) s t held goes_on h = socketed s t held (were_changed j (wrote (count_of h.answer)) s.own.connections t.own.connections (ap (λ (z : LoopState). z.connections) h.own)) (touched_open s.wire t.wire j (behind_write tells h.answer h.waiting) (sent_by tells h.answer h.waiting) h.wire)
-  sockets_kept (breaks j) s t held goes_on h = touched_dropped s t j h.link (behind_write tells answered.Failed h.waiting) (sent_by tells answered.Failed h.waiting) h.wire h.failed held h.touched h.dropped
+  sockets_kept (writes j bytes) s t held goes_on h = socketed s t held (were_changed j (wrote (count_of h.answer)) s.own.connections t.own.connections (ap (λ (z : LoopState). z.connections) h.own)) (touched_open s.wire t.wire j (behind_write tells h.answer h.waiting) (bytes_moved tells h.answer h.waiting) h.wire)
+  sockets_kept (breaks j) s t held goes_on h = touched_dropped s t j h.link (behind_write tells answered.Failed h.waiting) (bytes_moved tells answered.Failed h.waiting) h.wire h.failed held h.touched h.dropped
   sockets_kept (closes j) s t held goes_on h = dropped_both s t j None held h.dropped
   sockets_kept (appends texts) s t held goes_on h = socketed s t held (were_same (ap (λ (z : LoopState). z.connections) h.own)) (same_wire h.wire)
   sockets_kept fails s t held goes_on h = absurd (no_fault goes_on)
@@ -214,14 +214,14 @@ touched_elsewhere : (s t : Stage) (e : Event) (j k : LinkId) (link : Option Link
 touched_elsewhere s t e j k link f bytes wire failed none other touched d = quiet s.wire t.wire e k none (ap moved_of (other_closed wire t.wire j k other d.wire) ∙ moved_elsewhere s.wire wire j k f bytes other touched)
 
 written : (s : Stage) (w : WireState) (j k : LinkId) (c : ConnectionState) (answer : Moved) (bytes waiting : List ℕ) → HaveSockets s → connection_at s.own k ≡ Some c
-    → bytes ≡ take (count_of answer) waiting → Touches s.wire j (behind_write true answer waiting) (sent_by true answer waiting) w → moved_on w k ≡ moved_on s.wire k ++ moved_by k (writes j bytes)
+    → bytes ≡ take (count_of answer) waiting → Touches s.wire j (behind_write true answer waiting) (bytes_moved true answer waiting) w → moved_on w k ≡ moved_on s.wire k ++ moved_by k (writes j bytes)
 written s w j k c answer bytes waiting h here are t = elim (eq_by_cmp id_cmp k j) as (λ v. eq_by_cmp id_cmp k j ≡ v → moved_on w k ≡ moved_on s.wire k ++ (if v then bytes else [])) [
   | true ↦ λ e.
       let socket = h.each k c here in
       let one = is_one k j e in
       let there = ap (get s.wire.open_links) (sym one) ∙ socket.1 in
-      ap (moved_on w) one ∙ (moved_here s.wire w j (behind_write true answer waiting) (sent_by true answer waiting) socket.0 there t ∙ (ap (λ ys. socket.0.moved ++ ys) (sym are) ∙ ap (λ ys. ys ++ bytes) (sym (ap moved_of socket.1))))
-  | false ↦ λ e. moved_elsewhere s.wire w j k (behind_write true answer waiting) (sent_by true answer waiting) e t ∙ sym (append-nil (moved_on s.wire k))
+      ap (moved_on w) one ∙ (moved_here s.wire w j (behind_write true answer waiting) (bytes_moved true answer waiting) socket.0 there t ∙ (ap (λ ys. socket.0.moved ++ ys) (sym are) ∙ ap (λ ys. ys ++ bytes) (sym (ap moved_of socket.1))))
+  | false ↦ λ e. moved_elsewhere s.wire w j k (behind_write true answer waiting) (bytes_moved true answer waiting) e t ∙ sym (append-nil (moved_on s.wire k))
 ] refl
 
 called_moved : (act : Act) (s m : Stage) (outs : OutsState) (k : LinkId) (c : ConnectionState) → HaveSockets s → connection_at s.own k ≡ Some c → Calls act s m outs → moved_on m.wire k ≡ moved_on s.wire k
@@ -247,7 +247,7 @@ module _ (mode : SyncMode) where
   moved_kept (spills act outs) s t k c held here goes_on stays h = absurd (no_fault goes_on)
   moved_kept (tears act outs) s t k c held here goes_on stays h = absurd (no_fault goes_on)
   moved_kept (writes j bytes) s t k c held here goes_on stays h = written s t.wire j k c h.answer bytes h.waiting held here h.bytes_are h.wire
-  moved_kept (breaks j) s t k c held here goes_on stays h = touched_elsewhere s t (breaks j) j k h.link (behind_write true answered.Failed h.waiting) (sent_by true answered.Failed h.waiting) h.wire h.failed refl stays h.touched h.dropped
+  moved_kept (breaks j) s t k c held here goes_on stays h = touched_elsewhere s t (breaks j) j k h.link (behind_write true answered.Failed h.waiting) (bytes_moved true answered.Failed h.waiting) h.wire h.failed refl stays h.touched h.dropped
   moved_kept (closes j) s t k c held here goes_on stays h = dropped_elsewhere s t (closes j) j k None refl stays h.dropped
   moved_kept (appends texts) s t k c held here goes_on stays h = unmoved (appends texts) k refl h.wire
   moved_kept fails s t k c held here goes_on stays h = absurd (no_fault goes_on)
@@ -298,7 +298,7 @@ module _ (mode : SyncMode) where
   told_of (tears act outs) s t held goes_on h = absurd (no_fault goes_on)
   told_of (writes j bytes) s t held goes_on h =
       let socket = held.each j (record { link = h.link; waiting = h.waiting }) h.has.is in
-      touched_sent s.wire t.wire j (behind_write true h.answer h.waiting) (sent_by true h.answer h.waiting) socket.0 socket.1 h.wire.changes ∙ ap (λ ys. sent_on j ys s.wire.sent) (sym h.bytes_are)
+      touched_sent s.wire t.wire j (behind_write true h.answer h.waiting) (bytes_moved true h.answer h.waiting) socket.0 socket.1 h.wire.changes ∙ ap (λ ys. sent_on j ys s.wire.sent) (sym h.bytes_are)
   told_of (breaks j) s t held goes_on h = h.dropped.sent ∙ none_sent s.wire h.wire j (behind_write true answered.Failed h.waiting) h.touched
   told_of (closes j) s t held goes_on h = h.dropped.sent
   told_of (appends texts) s t held goes_on h = ap (λ (z : WireState). z.sent) h.wire

@@ -8,7 +8,8 @@ use Rattle.mr_file.specs.LogFile.{Rose}
 use Rattle.mr_file.specs.declared.sync_mode.SyncMode.{SyncMode}
 use Rattle.mr_node_spec.specs.State.{NodeState}
 use Rattle.mr_source.specs.Drawn.{DrawnState}
-use Rattle.mr_wire.specs.Wire.{LinkState, ChangesLink, WireState, behind_write, count_of, is_over, moves_none, sent_by, told as told_of}
+use Rattle.mr_wire.specs.declared.waited.Waited.{Waited}
+use Rattle.mr_wire.specs.Wire.{LinkState, ChangesLink, WireState, behind_write, count_of, is_over, moves_none, bytes_moved, told as told_of}
 use Rattle.mr_wire.specs.declared.wire.Moved.{Moved}
 use Rattle.mr_wire.specs.declared.wire.Moved.TheVariants as moved
 use Rattle.mr_connections.specs.State.{ConnectionState, HasLink, changed, wrote}
@@ -83,13 +84,13 @@ abbrev behind_moved : Bool → Moved → List ℕ → LinkState → LinkState
 behind_moved tells m bytes e = record e { moved = e.moved ++ told_of tells bytes; ended = e.ended || is_over m; stuck = if tells then moves_none m else e.stuck }
 
 -- a write of the bytes in front is one of all that waits
-front_written : (tells : Bool) (v w : WireState) (l : LinkId) (answer : Moved) (bytes waiting : List ℕ) → IsInFront bytes waiting → count_of answer ≤ length bytes → ChangesLink v l (behind_write tells answer bytes) (sent_by tells answer bytes) w
-    → ChangesLink v l (behind_write tells answer waiting) (sent_by tells answer waiting) w
+front_written : (tells : Bool) (v w : WireState) (l : LinkId) (answer : Moved) (bytes waiting : List ℕ) → IsInFront bytes waiting → count_of answer ≤ length bytes → ChangesLink v l (behind_write tells answer bytes) (bytes_moved tells answer bytes) w
+    → ChangesLink v l (behind_write tells answer waiting) (bytes_moved tells answer waiting) w
 front_written tells v w l answer bytes waiting front within written = subst (λ z. ChangesLink v l (behind_moved tells answer z) (told_of tells z) w) (front_take bytes waiting (count_of answer) front within) written
 
 -- bytes that were moved, as the wire answered it of what is in front on the connection
 pub writes_row : {tells : Bool} {s t : Stage} (socket : LinkId) (c : ConnectionState) (answer : Moved) (bytes : List ℕ) → s.own.batch ≡ [] → Some c ≡ connection_at s.own socket → IsInFront bytes c.waiting → answer ≢ moved.Failed
-    → count_of answer ≤ length bytes → ChangesLink s.wire socket (behind_write tells answer bytes) (sent_by tells answer bytes) t.wire → (get s.wire.open_links socket ≡ None → t.wire ≡ s.wire) → s.failed ≤ t.failed
+    → count_of answer ≤ length bytes → ChangesLink s.wire socket (behind_write tells answer bytes) (bytes_moved tells answer bytes) t.wire → (get s.wire.open_links socket ≡ None → t.wire ≡ s.wire) → s.failed ≤ t.failed
     → t.own ≡ with_connections (changed socket (wrote (count_of answer))) s.own → t.node ≡ s.node → SameFile s t → Writes tells socket (take (count_of answer) c.waiting) s t
 writes_row {tells} {s} {t} socket c answer bytes filed here front goes_on within written absent later own node file = record {
   filed = filed;
@@ -109,7 +110,7 @@ writes_row {tells} {s} {t} socket c answer bytes filed here front goes_on within
 
 -- .. and a write that moved none, where it is answered so
 pub writes_none : {tells : Bool} {s t : Stage} (socket : LinkId) (c : ConnectionState) (answer : Moved) (bytes : List ℕ) → (answer ≡ moved.NotReady) ⊎ (answer ≡ moved.End) → s.own.batch ≡ [] → Some c ≡ connection_at s.own socket → IsInFront bytes c.waiting
-    → count_of answer ≤ length bytes → ChangesLink s.wire socket (behind_write tells answer bytes) (sent_by tells answer bytes) t.wire → (get s.wire.open_links socket ≡ None → t.wire ≡ s.wire) → s.failed ≤ t.failed
+    → count_of answer ≤ length bytes → ChangesLink s.wire socket (behind_write tells answer bytes) (bytes_moved tells answer bytes) t.wire → (get s.wire.open_links socket ≡ None → t.wire ≡ s.wire) → s.failed ≤ t.failed
     → t.own ≡ with_connections (changed socket (wrote 0)) s.own → t.node ≡ s.node → SameFile s t → Writes tells socket (take 0 c.waiting) s t
 writes_none {tells} {s} {t} socket c answer bytes none filed here front within written absent later own node file =
     let zero = none_moved answer none in
@@ -118,7 +119,7 @@ writes_none {tells} {s} {t} socket c answer bytes none filed here front within w
 
 -- .. and one that failed
 pub breaks_row : {tells : Bool} {s t : Stage} (socket : LinkId) (c : ConnectionState) (link : Option LinkId) (bytes : List ℕ) (wire : WireState) (failed : ℕ) → s.own.batch ≡ [] → Some c ≡ connection_at s.own socket → link ≡ c.link → IsInFront bytes c.waiting
-    → ChangesLink s.wire socket (behind_write tells moved.Failed bytes) (sent_by tells moved.Failed bytes) wire → (get s.wire.open_links socket ≡ None → wire ≡ s.wire) → Rose s.failed failed → Dropped socket link (record s { wire = wire; failed = failed }) t → Breaks tells socket s t
+    → ChangesLink s.wire socket (behind_write tells moved.Failed bytes) (bytes_moved tells moved.Failed bytes) wire → (get s.wire.open_links socket ≡ None → wire ≡ s.wire) → Rose s.failed failed → Dropped socket link (record s { wire = wire; failed = failed }) t → Breaks tells socket s t
 breaks_row {tells} {s} {t} socket c link bytes wire failed filed here linked front written absent rose dropped = record {
   filed = filed;
   link = link;
@@ -138,15 +139,15 @@ no_bytes zero h = refl
 no_bytes (suc n) h = absurd (omega (arith, h))
 
 -- a write that moved nothing, and didn't fail
-pub stuck_now : {tells : Bool} (v w : WireState) (l : LinkId) (answer : Moved) (bytes : List ℕ) → answer ≢ moved.Failed → moves_none answer ≡ true → ChangesLink v l (behind_write tells answer bytes) (sent_by tells answer bytes) w → (get v.open_links l ≡ None → answer ≡ moved.Failed) → IsStuck tells w l
+pub stuck_now : {tells : Bool} (v w : WireState) (l : LinkId) (answer : Moved) (bytes : List ℕ) → answer ≢ moved.Failed → moves_none answer ≡ true → ChangesLink v l (behind_write tells answer bytes) (bytes_moved tells answer bytes) w → (get v.open_links l ≡ None → answer ≡ moved.Failed) → IsStuck tells w l
 stuck_now {tells} v w l answer bytes goes_on none written absent = record {
   told = λ tell. elim (get v.open_links l) as (λ o. get v.open_links l ≡ o → (e : LinkState) × (get w.open_links l ≡ Some e) × (e.stuck ≡ true)) [
     | None ↦ λ e. absurd (goes_on (absent e))
-    | Some x ↦ λ e. (behind_write tells answer bytes x, here_put v w l (behind_write tells answer bytes x) (touched_links v w l (behind_write tells answer bytes) (sent_by tells answer bytes) x e written), ap (λ b. if b then moves_none answer else x.stuck) tell ∙ none)
+    | Some x ↦ λ e. (behind_write tells answer bytes x, here_put v w l (behind_write tells answer bytes x) (touched_links v w l (behind_write tells answer bytes) (bytes_moved tells answer bytes) x e written), ap (λ b. if b then moves_none answer else x.stuck) tell ∙ none)
   ] refl;
 }
 
-pub none_stuck : {tells : Bool} (v w : WireState) (l : LinkId) (answer : Moved) (bytes : List ℕ) → (answer ≡ moved.NotReady) ⊎ (answer ≡ moved.End) → ChangesLink v l (behind_write tells answer bytes) (sent_by tells answer bytes) w → (get v.open_links l ≡ None → answer ≡ moved.Failed) → IsStuck tells w l
+pub none_stuck : {tells : Bool} (v w : WireState) (l : LinkId) (answer : Moved) (bytes : List ℕ) → (answer ≡ moved.NotReady) ⊎ (answer ≡ moved.End) → ChangesLink v l (behind_write tells answer bytes) (bytes_moved tells answer bytes) w → (get v.open_links l ≡ None → answer ≡ moved.Failed) → IsStuck tells w l
 none_stuck v w l answer bytes (inl e) written absent = stuck_now v w l answer bytes (none_failed answer (inl e)) (ap moves_none e) written absent
 none_stuck v w l answer bytes (inr e) written absent = stuck_now v w l answer bytes (none_failed answer (inr e)) (ap moves_none e) written absent
 
@@ -190,11 +191,11 @@ at_now x m = record m { now = x }
 
 -- ---- writing in a loop
 
-module _ {W F S : Type 0} (tells : Bool) (links : W → WireState) (failures waited : W → ℕ) (told : F → Option (List ℕ)) (synced : F → Option ℕ) (drawn : S → DrawnState) where
+module _ {W F S : Type 0} (tells : Bool) (links : W → WireState) (failures : W → ℕ) (waited : W → Waited) (broke : F → ℕ) (told : F → Option (List ℕ)) (synced : F → Option ℕ) (drawn : S → DrawnState) where
   -- some connections were written to
   pub record HasWritten (a b : Host W F S) : Type 0 where
     pub went : Goes tells links failures told synced drawn a b
-    pub same : IsSame waited a b
+    pub same : IsSame waited broke a b
     pub batch : b.own.now.batch ≡ []
     pub moment : moment_in drawn b ≡ moment_in drawn a
     pub core : b.node.now.core ≡ a.node.now.core
@@ -203,7 +204,7 @@ module _ {W F S : Type 0} (tells : Bool) (links : W → WireState) (failures wai
   -- .. or one was, which is still there as it was
   pub record WritesOn (socket link : LinkId) (a b : Host W F S) : Type 0 where
     pub went : Goes tells links failures told synced drawn a b
-    pub same : IsSame waited a b
+    pub same : IsSame waited broke a b
     pub batch : b.own.now.batch ≡ []
     pub moment : moment_in drawn b ≡ moment_in drawn a
     pub node : b.node.now ≡ a.node.now
@@ -229,7 +230,7 @@ module _ {W F S : Type 0} (tells : Bool) (links : W → WireState) (failures wai
   -- .. or closed
   pub record HasClosed (a b : Host W F S) : Type 0 where
     pub went : Goes tells links failures told synced drawn a b
-    pub same : IsSame waited a b
+    pub same : IsSame waited broke a b
     pub batch : b.own.now.batch ≡ a.own.now.batch
     pub moment : moment_in drawn b ≡ moment_in drawn a
     pub node : b.node.now ≡ a.node.now
@@ -238,7 +239,7 @@ module _ {W F S : Type 0} (tells : Bool) (links : W → WireState) (failures wai
   closed_first a = record { went = still_here (moment_in drawn a) _; same = same_here a; batch = refl; moment = refl; node = refl }
 
   pub closed_on : (a b c : Host W F S) (socket : LinkId) → HasClosed a b → connection_at b.own.now socket ≡ Some (with_waiting None [])
-      → Dropped socket None (stage_in links failures told synced b) (stage_in links failures told synced c) → moment_in drawn c ≡ moment_in drawn b → IsSame waited b c → HasClosed a c
+      → Dropped socket None (stage_in links failures told synced b) (stage_in links failures told synced c) → moment_in drawn c ≡ moment_in drawn b → IsSame waited broke b c → HasClosed a c
   closed_on a b c socket x here dropped moment same = record {
     went = still_then x.same.mode x.went (still_one (closes socket) (moment_in drawn b) (moment_in drawn c) refl refl refl refl refl refl refl refl (λ ids. refl) (record { has = record { is = here }; dropped = dropped }) moment);
     same = same_on a b c x.same same;

@@ -97,9 +97,9 @@ taken_by (tears act outs) = listed outs.used
 taken_by _ = []
 
 -- .. by events one after another
-abbrev pub taken_in : List Event → List (List ℕ)
-taken_in [] = []
-taken_in (e ∷ es) = taken_by e ++ taken_in es
+abbrev pub ids_taken_in : List Event → List (List ℕ)
+ids_taken_in [] = []
+ids_taken_in (e ∷ es) = taken_by e ++ ids_taken_in es
 
 -- they are some of those, in their order
 abbrev pub AreAmong : List (List ℕ) → List (List ℕ) → Type 0
@@ -108,4 +108,4 @@ AreAmong ids (x ∷ xs) = AreAmong ids xs ⊎ ((rest : List (List ℕ)) × (ids 
 
 -- **None is taken twice**: those that are taken, in their order, and those that are left, are those that there were.
 abbrev pub TakesEachOnce : Type 0
-TakesEachOnce = (ids left : List (List ℕ)) (events : List Event) → AllGiven ids events left → taken_in events ++ left ≡ ids
+TakesEachOnce = (ids left : List (List ℕ)) (events : List Event) → AllGiven ids events left → ids_taken_in events ++ left ≡ ids

@@ -12,8 +12,8 @@ abbrev pub no_lack : Lacked
 no_lack = record { times = 0; links = 0; last = None }
 
 -- it ran out once more, and no link is closed for it
-abbrev pub spent : Lacked → Lacked
-spent l = record l { times = min (l.times + 1) (2 ^ 64 - 1) }
+abbrev pub lacked_once : Lacked → Lacked
+lacked_once l = record l { times = min (l.times + 1) (2 ^ 64 - 1) }
 
 -- .. as this was asked for, and a link is closed for it
 abbrev pub lost : Asked → Lacked → Lacked

@@ -8,7 +8,7 @@ use Rattle.mr_loop.specs.declared.fault.LoopFault.TheVariants as fault
 use Rattle.mr_loop.specs.declared.told.Turn.{Turn}
 use Rattle.mr_loop.specs.Stage.{Stage}
 use Rattle.mr_loop.specs.Rows.{Event, fault_of, Happens, IsToldToStop, Went}
-use Rattle.mr_loop.specs.Giving.{AreAmong, Rises, Supplies, moments_in, taken_in}
+use Rattle.mr_loop.specs.Giving.{AreAmong, Rises, Supplies, moments_in, ids_taken_in}
 use Rattle.mr_loop.specs.Counting.{CountsStill, MomentState, Reaches, ReachesAny, TellsOf}
 
 module _ (tells : Bool) (mode : SyncMode) where
@@ -85,7 +85,7 @@ module _ (tells : Bool) (mode : SyncMode) where
   -- the ids that so many turns took
   abbrev pub taken_over : (n : ℕ) (drawn after : DrawnState) (s t : Stage) → TurnsOn n drawn after s t → List (List ℕ)
   taken_over zero drawn after s t turns = []
-  taken_over (suc n) drawn after s t turns = taken_over n drawn turns.1 s turns.0 turns.2 ++ taken_in turns.3.tells_of.went.events
+  taken_over (suc n) drawn after s t turns = taken_over n drawn turns.1 s turns.0 turns.2 ++ ids_taken_in turns.3.tells_of.went.events
 
   -- the moments of so many turns
   abbrev pub moments_over : (n : ℕ) (drawn after : DrawnState) (s t : Stage) → TurnsOn n drawn after s t → List ℤ

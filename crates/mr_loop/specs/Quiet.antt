@@ -53,14 +53,14 @@ left_in (Some (replica unread)) = 1 + length unread
 left_in (Some upstream) = 1
 left_in (Some shut) = 0
 
-abbrev pub taken_in : Option Taking → ℕ
-taken_in None = 0
-taken_in (Some t) = t.head + t.done
+abbrev pub taken_so_far : Option Taking → ℕ
+taken_so_far None = 0
+taken_so_far (Some t) = t.head + t.done
 
 -- what was fed at the link to the master and isn't used
 abbrev pub left_of : LinkId → Option (LinkId × FollowState) → ℕ
 left_of l None = 0
-left_of l (Some f) = if eq_by_cmp id_cmp f.0 l then taken_in f.1.taking + length f.1.kept else 0
+left_of l (Some f) = if eq_by_cmp id_cmp f.0 l then taken_so_far f.1.taking + length f.1.kept else 0
 
 abbrev pub left_at : NodeState → LinkId → ℕ
 left_at a l = left_in (end_of a l) + left_of l a.follow

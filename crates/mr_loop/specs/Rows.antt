@@ -11,12 +11,13 @@ use Rattle.mr_node.specs.declared.step.Step.TheVariants as step
 use Rattle.mr_file.specs.LogFile.{Appends, AppendsSome, IsSynced, Rose}
 use Rattle.mr_file.specs.declared.sync_mode.SyncMode.{SyncMode}
 use Rattle.mr_file.specs.declared.sync_mode.SyncMode.TheVariants as sync
-use Rattle.mr_wire.specs.Wire.{Accepts, AcceptsNone, WireState, behind_read, behind_write, count_of, is_over, sent_by}
+use Rattle.mr_wire.specs.Wire.{Accepts, AcceptsNone, WireState, behind_read, behind_write, count_of, is_over, bytes_moved}
 use Rattle.mr_wire.specs.declared.wire.Moved.{Moved}
 use Rattle.mr_wire.specs.declared.wire.Moved.TheVariants as moved
 use Rattle.mr_connections.specs.State.{HasLink, begun, changed, parted, wrote}
 use Rattle.mr_loop.specs.declared.fault.LoopFault.{LoopFault}
 use Rattle.mr_loop.specs.declared.fault.LoopFault.TheVariants as fault
+use Rattle.mr_node_spec.specs.TimeRows.{HasDue}
 use Rattle.mr_node.specs.Calls.{FeedRow, IsUnread, OpensNoMore}
 use Rattle.mr_node.specs.Parts.{role_of}
 use Rattle.mr_loop.specs.declared.lacking.Asked.{Asked}
@@ -233,7 +234,7 @@ pub record Writes (tells : Bool) (socket : LinkId) (bytes : List ℕ) (s t : Sta
   pub goes_on : answer ≢ moved.Failed
   pub within : count_of answer ≤ length waiting
   pub bytes_are : bytes ≡ take (count_of answer) waiting
-  pub wire : Touches s.wire socket (behind_write tells answer waiting) (sent_by tells answer waiting) t.wire
+  pub wire : Touches s.wire socket (behind_write tells answer waiting) (bytes_moved tells answer waiting) t.wire
   pub later : s.failed ≤ t.failed
   pub own : t.own ≡ with_connections (changed socket (wrote (count_of answer))) s.own
   pub node : t.node ≡ s.node
@@ -246,7 +247,7 @@ pub record Breaks (tells : Bool) (socket : LinkId) (s t : Stage) : Type 0 where
   pub waiting : List ℕ
   pub has : Has s.own socket link waiting
   pub wire : WireState
-  pub touched : Touches s.wire socket (behind_write tells moved.Failed waiting) (sent_by tells moved.Failed waiting) wire
+  pub touched : Touches s.wire socket (behind_write tells moved.Failed waiting) (bytes_moved tells moved.Failed waiting) wire
   pub failed : ℕ
   pub rose : Rose s.failed failed
   pub dropped : Dropped socket link (record s { wire = wire; failed = failed }) t
@@ -273,9 +274,10 @@ pub record FailsAtFile (s t : Stage) : Type 0 where
   pub failed : t.failed ≡ s.failed
   pub node : t.node ≡ s.node
 
--- The node had no memory for a tick, and stays.
-pub record MissesTick (s t : Stage) : Type 0 where
+-- The node had no memory for a tick at which something was due, and stays.
+pub record MissesTick (given : Given) (s t : Stage) : Type 0 where
   pub up : s.node.core.up ≡ true
+  pub due : HasDue s.node given.now
   pub is : t ≡ record s { own = lacking s.own }
 
 pub record Settles (hurries : Bool) (s t : Stage) : Type 0 where
@@ -316,7 +318,7 @@ module _ (tells : Bool) (mode : SyncMode) where
   Happens s (closes socket) t = Closes socket s t
   Happens s (appends texts) t = IsAppended mode texts s t
   Happens s fails t = FailsAtFile s t
-  Happens s (misses_tick given) t = MissesTick s t
+  Happens s (misses_tick given) t = MissesTick given s t
   Happens s misses_dial t = TurnsAway asked.Dial s t
   Happens s (settles hurries) t = Settles hurries s t
   Happens s (stops stop) t = IsStopped stop s t

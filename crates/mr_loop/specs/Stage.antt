@@ -9,7 +9,7 @@ use Rattle.mr_wire.specs.Wire.{WireState}
 use Rattle.mr_connections.specs.State.{ConnectionState, connection_code}
 use Rattle.mr_loop.specs.declared.lacking.Asked.{Asked}
 use Rattle.mr_loop.specs.declared.lacking.Lacked.{Lacked}
-use Rattle.mr_loop.specs.Lacking.{lacked_code, lost, spent}
+use Rattle.mr_loop.specs.Lacking.{lacked_code, lost, lacked_once}
 
 -- what the loop itself holds
 pub record LoopState : Type 0 where
@@ -43,7 +43,7 @@ halting o = record o { halted = true }
 
 -- memory ran out once more, and no link is closed for it
 abbrev pub lacking : LoopState → LoopState
-lacking o = record o { lacked = spent o.lacked }
+lacking o = record o { lacked = lacked_once o.lacked }
 
 -- .. as this was asked for, and a link is closed for it
 abbrev pub losing : Asked → LoopState → LoopState

@@ -23,7 +23,7 @@ impl<W: Wire, F: LogFile, S: Source> Host<'_, '_, W, F, S> {
     pub(crate) fn accept_all(&mut self) -> Result<bool, LoopFault>
         ensures went { GoesUpToAs W.tells W.links W.failures F.told F.synced S.drawn accepts_by
             most_accepted result self.old self.new }
-        ensures same { IsSame W.waited self.old self.new }
+        ensures same { IsSame W.waited F.failures self.old self.new }
         ensures device { IsErrOf result LoopFault.File → self.new.log.now.broken ≡ true }
         ensures quiet { AllWait self.old.node.now → OnOk result (AllWait self.new.node.now) }
     {
@@ -39,7 +39,7 @@ impl<W: Wire, F: LogFile, S: Source> Host<'_, '_, W, F, S> {
     fn accept_next(&mut self) -> Result<bool, LoopFault>
         ensures went { GoesUpToAs W.tells W.links W.failures F.told F.synced S.drawn accepts_by 1
             result self.old self.new }
-        ensures same { IsSame W.waited self.old self.new }
+        ensures same { IsSame W.waited F.failures self.old self.new }
         ensures device { IsErrOf result LoopFault.File → self.new.log.now.broken ≡ true }
         ensures quiet { AllWait self.old.node.now → OnOk result (AllWait self.new.node.now) }
     {
@@ -57,7 +57,7 @@ impl<W: Wire, F: LogFile, S: Source> Host<'_, '_, W, F, S> {
             failed ≤ W.failures self.old.wire.now
             → GoesUpToFrom W.tells W.links W.failures F.told F.synced S.drawn before failed
             accepts_by 1 result self.old self.new }
-        ensures same { IsSame W.waited self.old self.new }
+        ensures same { IsSame W.waited F.failures self.old self.new }
         ensures device { IsErrOf result LoopFault.File → self.new.log.now.broken ≡ true }
         ensures quiet { AllWait self.old.node.now → OnOk result (AllWait self.new.node.now) }
     {

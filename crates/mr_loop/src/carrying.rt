@@ -27,7 +27,7 @@ impl<W: Wire, F: LogFile, S: Source> Host<'_, '_, W, F, S> {
         ensures moment { OnOk result
             (Renewed outs.used (moment_in S.drawn self.old) (moment_in S.drawn self.new)) }
         ensures kept { OnErr result (moment_in S.drawn self.new ≡ moment_in S.drawn self.old) }
-        ensures same { IsSame W.waited self.old self.new }
+        ensures same { IsSame W.waited F.failures self.old self.new }
         ensures device { IsErrOf result LoopFault.File → self.new.log.now.broken ≡ true }
     {
         let takes_id = outs.used().is_some();
@@ -47,7 +47,7 @@ impl<W: Wire, F: LogFile, S: Source> Host<'_, '_, W, F, S> {
             (stage_in W.links W.failures F.told F.synced self.old)
             (stage_in W.links W.failures F.told F.synced self.new) }
         ensures moment { moment_in S.drawn self.new ≡ moment_in S.drawn self.old }
-        ensures same { IsSame W.waited self.old self.new }
+        ensures same { IsSame W.waited F.failures self.old self.new }
         ensures device { IsErrOf result LoopFault.File → self.new.log.now.broken ≡ true }
     {
         self.carry_first(outs)?;
@@ -66,7 +66,7 @@ impl<W: Wire, F: LogFile, S: Source> Host<'_, '_, W, F, S> {
             (stage_in W.links W.failures F.told F.synced self.old)
             (stage_in W.links W.failures F.told F.synced self.new) }
         ensures moment { moment_in S.drawn self.new ≡ moment_in S.drawn self.old }
-        ensures same { IsSame W.waited self.old self.new }
+        ensures same { IsSame W.waited F.failures self.old self.new }
         ensures device { IsErrOf result LoopFault.File → self.new.log.now.broken ≡ true }
     {
         match outs.take_last() {
@@ -92,7 +92,7 @@ impl<W: Wire, F: LogFile, S: Source> Host<'_, '_, W, F, S> {
             (stage_in W.links W.failures F.told F.synced self.new)) }
         ensures fault { IfErr result (λ e. e ≡ LoopFault.Stopped) }
         ensures moment { moment_in S.drawn self.new ≡ moment_in S.drawn self.old }
-        ensures same { IsSame W.waited self.old self.new }
+        ensures same { IsSame W.waited F.failures self.old self.new }
     {
         let Some(mut texts) = outs.take_first() else {
             return Ok(());
@@ -108,7 +108,7 @@ impl<W: Wire, F: LogFile, S: Source> Host<'_, '_, W, F, S> {
             (stage_in W.links W.failures F.told F.synced self.old)
             (stage_in W.links W.failures F.told F.synced self.new) }
         ensures moment { moment_in S.drawn self.new ≡ moment_in S.drawn self.old }
-        ensures same { IsSame W.waited self.old self.new }
+        ensures same { IsSame W.waited F.failures self.old self.new }
         ensures device { IsErrOf result LoopFault.File → self.new.log.now.broken ≡ true }
     {
         for out in outs.iter() {
@@ -123,7 +123,7 @@ impl<W: Wire, F: LogFile, S: Source> Host<'_, '_, W, F, S> {
             (stage_in W.links W.failures F.told F.synced self.old)
             (stage_in W.links W.failures F.told F.synced self.new) }
         ensures moment { moment_in S.drawn self.new ≡ moment_in S.drawn self.old }
-        ensures same { IsSame W.waited self.old self.new }
+        ensures same { IsSame W.waited F.failures self.old self.new }
         ensures device { IsErrOf result LoopFault.File → self.new.log.now.broken ≡ true }
     {
         match out {
@@ -154,7 +154,7 @@ impl<W: Wire, F: LogFile, S: Source> Host<'_, '_, W, F, S> {
         ensures wire { self.new.wire.now ≡ self.old.wire.now }
         ensures log { self.new.log.now ≡ self.old.log.now }
         ensures moment { moment_in S.drawn self.new ≡ moment_in S.drawn self.old }
-        ensures same { IsSame W.waited self.old self.new }
+        ensures same { IsSame W.waited F.failures self.old self.new }
     {
         self.node.close(link);
         self.own.part(link);
@@ -166,7 +166,7 @@ impl<W: Wire, F: LogFile, S: Source> Host<'_, '_, W, F, S> {
             (stage_in W.links W.failures F.told F.synced self.old)
             (stage_in W.links W.failures F.told F.synced self.new) }
         ensures moment { moment_in S.drawn self.new ≡ moment_in S.drawn self.old }
-        ensures same { IsSame W.waited self.old self.new }
+        ensures same { IsSame W.waited F.failures self.old self.new }
         ensures device { IsErrOf result LoopFault.File → self.new.log.now.broken ≡ true }
     {
         match self.log.replace(whole) {

@@ -20,7 +20,7 @@ impl<W: Wire, F: LogFile, S: Source> Host<'_, '_, W, F, S> {
     pub(crate) fn dial(&mut self) -> Result<(), LoopFault>
         ensures went { GoesAs W.tells W.links W.failures F.told F.synced S.drawn result self.old
             self.new }
-        ensures same { IsSame W.waited self.old self.new }
+        ensures same { IsSame W.waited F.failures self.old self.new }
         ensures device { IsErrOf result LoopFault.File → self.new.log.now.broken ≡ true }
         ensures quiet { AllWait self.old.node.now → OnOk result (AllWait self.new.node.now) }
     {
@@ -52,7 +52,7 @@ impl<W: Wire, F: LogFile, S: Source> Host<'_, '_, W, F, S> {
             failed ≤ W.failures self.old.wire.now →
             GoesFrom W.tells W.links W.failures F.told F.synced S.drawn before failed result
             self.old self.new }
-        ensures same { IsSame W.waited self.old self.new }
+        ensures same { IsSame W.waited F.failures self.old self.new }
         ensures device { IsErrOf result LoopFault.File → self.new.log.now.broken ≡ true }
         ensures quiet { AllWait self.old.node.now → OnOk result (AllWait self.new.node.now) }
     {

@@ -15,7 +15,7 @@ impl<W: Wire, F: LogFile, S: Source> Host<'_, '_, W, F, S> {
         ensures dropped { Dropped socket link (stage_in W.links W.failures F.told F.synced self.old)
             (stage_in W.links W.failures F.told F.synced self.new) }
         ensures moment { moment_in S.drawn self.new ≡ moment_in S.drawn self.old }
-        ensures same { IsSame W.waited self.old self.new }
+        ensures same { IsSame W.waited F.failures self.old self.new }
     {
         if let Some(link) = link {
             self.node.close(link);

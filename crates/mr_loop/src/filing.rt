@@ -18,7 +18,7 @@ impl<W: Wire, F: LogFile, S: Source> Host<'_, '_, W, F, S> {
         ensures all { OnOk result (self.new.own.now ≡ committed self.old.own.now) }
         ensures node { self.new.node.now ≡ self.old.node.now }
         ensures moment { moment_in S.drawn self.new ≡ moment_in S.drawn self.old }
-        ensures same { IsSame W.waited self.old self.new }
+        ensures same { IsSame W.waited F.failures self.old self.new }
         ensures device { IsErrOf result LoopFault.File → self.new.log.now.broken ≡ true }
     {
         if self.own.batch().is_empty() {

@@ -1,6 +1,6 @@
 // What memory was asked for in vain.
 ghost use Rattle.std.specs.Prelude.{◌≡◌, Some};
-ghost use Rattle.mr_loop.specs.Lacking.{asked_at, lacked_since, lost, no_lack, spent, told_or_none, told_with};
+ghost use Rattle.mr_loop.specs.Lacking.{asked_at, lacked_since, lost, no_lack, lacked_once, told_or_none, told_with};
 
 use crate::followed::Place;
 
@@ -46,7 +46,7 @@ impl Lacked {
 
     /// It ran out once more, and no link is closed for it.
     pub(crate) fn count(&mut self)
-        ensures { self.new ≡ spent self.old }
+        ensures { self.new ≡ lacked_once self.old }
     {
         self.times = self.times.saturating_add(1);
     }

@@ -19,6 +19,7 @@ mod stepping;
 mod ticking;
 mod told;
 mod turning;
+mod watch;
 mod writing;
 
 pub use fault::LoopFault;
@@ -33,3 +34,4 @@ pub use links::Links;
 pub use serving::serve;
 pub use told::Turn;
 pub use turning::turn;
+pub use watch::{Unwatched, Watch};

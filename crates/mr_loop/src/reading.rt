@@ -40,7 +40,7 @@ impl<W: Wire, F: LogFile, S: Source> Host<'_, '_, W, F, S> {
     pub(crate) fn gather(&mut self)
         ensures stays { StaysAs W.tells W.links W.failures F.told F.synced S.drawn self.old
             self.new }
-        ensures same { IsSame W.waited self.old self.new }
+        ensures same { IsSame W.waited F.failures self.old self.new }
     {
         self.own.serve_nobody();
         for _ in 0..self.own.len() {
@@ -61,7 +61,7 @@ impl<W: Wire, F: LogFile, S: Source> Host<'_, '_, W, F, S> {
     ) -> Option<LinkId>
         ensures went { GoesUpTo W.tells W.links W.failures F.told F.synced S.drawn
             (pieces_by socket) 1 (is_some result) self.old self.new }
-        ensures same { IsSame W.waited self.old self.new }
+        ensures same { IsSame W.waited F.failures self.old self.new }
         ensures quiet { AllWait self.old.node.now → WaitsBut result self.new.node.now }
         ensures linked { IfSome result (λ link. HasLink self.new.own.now.connections socket link) }
     {
@@ -92,7 +92,7 @@ impl<W: Wire, F: LogFile, S: Source> Host<'_, '_, W, F, S> {
         requires room { HasRoom self.old.node.now link (length buffer.old) }
         ensures went { GoesUpTo W.tells W.links W.failures F.told F.synced S.drawn
             (pieces_by socket) 1 (is_some result) self.old self.new }
-        ensures same { IsSame W.waited self.old self.new }
+        ensures same { IsSame W.waited F.failures self.old self.new }
         ensures quiet { AllWait self.old.node.now → WaitsBut result self.new.node.now }
         ensures linked { IfSome result (λ l. HasLink self.new.own.now.connections socket l) }
     {

@@ -29,7 +29,7 @@ impl<W: Wire, F: LogFile, S: Source> Host<'_, '_, W, F, S> {
         requires { IsLinked self.old.node.now self.old.own.now socket link }
         ensures went { GoesAs W.tells W.links W.failures F.told F.synced S.drawn result self.old
             self.new }
-        ensures same { IsSame W.waited self.old self.new }
+        ensures same { IsSame W.waited F.failures self.old self.new }
         ensures device { IsErrOf result LoopFault.File → self.new.log.now.broken ≡ true }
         ensures quiet { OthersWait self.old.node.now link →
             OnOk result (AllWait self.new.node.now) }
@@ -44,7 +44,7 @@ impl<W: Wire, F: LogFile, S: Source> Host<'_, '_, W, F, S> {
         requires { IsLinked self.old.node.now self.old.own.now socket link }
         ensures went { GoesAs W.tells W.links W.failures F.told F.synced S.drawn result self.old
             self.new }
-        ensures same { IsSame W.waited self.old self.new }
+        ensures same { IsSame W.waited F.failures self.old self.new }
         ensures device { IsErrOf result LoopFault.File → self.new.log.now.broken ≡ true }
         ensures quiet { OthersWait self.old.node.now link →
             IfOk result (λ used. WaitsUnless used link self.new.node.now) }
@@ -92,7 +92,7 @@ impl<W: Wire, F: LogFile, S: Source> Host<'_, '_, W, F, S> {
         requires light { IsLight self.old.node.now self.old.own.now socket link }
         ensures went { GoesAs W.tells W.links W.failures F.told F.synced S.drawn result self.old
             self.new }
-        ensures same { IsSame W.waited self.old self.new }
+        ensures same { IsSame W.waited F.failures self.old self.new }
         ensures device { IsErrOf result LoopFault.File → self.new.log.now.broken ≡ true }
         ensures quiet { OthersWait self.old.node.now link →
             IfOk result (λ used. WaitsUnless used link self.new.node.now) }
@@ -152,7 +152,7 @@ impl<W: Wire, F: LogFile, S: Source> Host<'_, '_, W, F, S> {
         requires linked { IsLinked self.old.node.now self.old.own.now socket link }
         ensures went { GoesAs W.tells W.links W.failures F.told F.synced S.drawn result self.old
             self.new }
-        ensures same { IsSame W.waited self.old self.new }
+        ensures same { IsSame W.waited F.failures self.old self.new }
         ensures device { IsErrOf result LoopFault.File → self.new.log.now.broken ≡ true }
         ensures quiet { OthersWait self.old.node.now link →
             IfOk result (λ there. there ≡ false → AllWait self.new.node.now) }

@@ -20,7 +20,7 @@ impl<W: Wire, F: LogFile, S: Source> Host<'_, '_, W, F, S> {
     pub(crate) fn tick_all(&mut self) -> Result<bool, LoopFault>
         ensures went { PassesAs W.tells W.links W.failures F.told F.synced S.drawn result
             (most_ticks self.old.moment.turn.done) self.old self.new }
-        ensures same { IsSame W.waited self.old self.new }
+        ensures same { IsSame W.waited F.failures self.old self.new }
         ensures device { IsErrOf result LoopFault.File → self.new.log.now.broken ≡ true }
         ensures quiet { AllWait self.old.node.now → OnOk result (AllWait self.new.node.now) }
     {
@@ -38,7 +38,7 @@ impl<W: Wire, F: LogFile, S: Source> Host<'_, '_, W, F, S> {
     fn tick(&mut self) -> Result<bool, LoopFault>
         ensures went { TicksAs W.tells W.links W.failures F.told F.synced S.drawn result self.old
             self.new }
-        ensures same { IsSame W.waited self.old self.new }
+        ensures same { IsSame W.waited F.failures self.old self.new }
         ensures device { IsErrOf result LoopFault.File → self.new.log.now.broken ≡ true }
         ensures quiet { AllWait self.old.node.now → OnOk result (AllWait self.new.node.now) }
     {

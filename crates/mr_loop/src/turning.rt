@@ -4,10 +4,11 @@ ghost use Rattle.mr_file.specs.LogFile.{Rose};
 ghost use Rattle.mr_connections.specs.State.{NoneDone};
 ghost use Rattle.mr_loop.specs.Counting.{most_pieces, nothing_counted, pieces_by};
 ghost use Rattle.mr_loop.specs.Going.{GoesAs, GoesTelling, GoesUpToAs, ReadsAs};
-ghost use Rattle.mr_loop.specs.Hosts.{IsSame, moment_in, stage_in};
+ghost use Rattle.mr_loop.specs.Hosts.{FileGoes, IsSame, moment_in, stage_in};
 ghost use Rattle.mr_loop.specs.Outcomes.{Turns};
 ghost use Rattle.mr_loop.specs.Quiet.{AllWait};
 ghost use Rattle.mr_loop.specs.Stage.{stage};
+ghost use Rattle.mr_wire.specs.Wire.{WaitsOnce};
 
 use crate::fault::LoopFault;
 use crate::host::Host;
@@ -51,6 +52,7 @@ pub fn turn<W: Wire, F: LogFile, S: Source>(
     ensures written { OnOk result (links.new.batch ≡ []) }
     ensures mode { log.new.mode ≡ log.old.mode }
     ensures device { IsErrOf result LoopFault.File → log.new.broken ≡ true }
+    ensures goes { FileGoes F.failures log.old log.new }
     ensures listener { IsErrOf result LoopFault.Listener →
         Rose (W.failures wire.old) (W.failures wire.new) }
     ensures quiet { AllWait node.old → OnOk result (AllWait node.new) }
@@ -58,8 +60,10 @@ pub fn turn<W: Wire, F: LogFile, S: Source>(
     ensures file { IsErrOf result LoopFault.File → node.new.core.up ≡ false }
     ensures stopped { IsErrOf result LoopFault.Stopped → node.new.core.up ≡ false }
     ensures up { OnOk result (node.new.core.up ≡ true) }
-    ensures hurries { W.tells ≡ true → links.old.hurries ≡ true → W.waited wire.new ≡ 0 }
-    ensures waits { W.tells ≡ true → links.old.hurries ≡ false → W.waited wire.new ≡ 100 }
+    ensures hurries { W.tells ≡ true → links.old.hurries ≡ true →
+        WaitsOnce 0 (W.waited wire.old) (W.waited wire.new) }
+    ensures waits { W.tells ≡ true → links.old.hurries ≡ false →
+        WaitsOnce 100 (W.waited wire.old) (W.waited wire.new) }
 {
     match wait(links, wire) {
         Ok(()) => {
@@ -91,6 +95,7 @@ fn turn_at<W: Wire, F: LogFile, S: Source>(
     ensures written { OnOk result (own.new.batch ≡ []) }
     ensures mode { log.new.mode ≡ log.old.mode }
     ensures device { IsErrOf result LoopFault.File → log.new.broken ≡ true }
+    ensures goes { FileGoes F.failures log.old log.new }
     ensures listener { IsErrOf result LoopFault.Listener → ⊥ }
     ensures quiet { AllWait node.old → OnOk result (AllWait node.new) }
     ensures closed { OnOk result (NoneDone own.new.connections) }
@@ -112,8 +117,10 @@ fn turn_at<W: Wire, F: LogFile, S: Source>(
 /// Waits until something is ready. Behind a turn that met a limit nothing is waited for.
 fn wait<W: Wire>(links: &Links, wire: &mut W) -> Result<(), Failed>
     ensures same { W.links wire.new ≡ W.links wire.old }
-    ensures hurries { W.tells ≡ true → links.now.hurries ≡ true → W.waited wire.new ≡ 0 }
-    ensures waits { W.tells ≡ true → links.now.hurries ≡ false → W.waited wire.new ≡ 100 }
+    ensures hurries { W.tells ≡ true → links.now.hurries ≡ true →
+        WaitsOnce 0 (W.waited wire.old) (W.waited wire.new) }
+    ensures waits { W.tells ≡ true → links.now.hurries ≡ false →
+        WaitsOnce 100 (W.waited wire.old) (W.waited wire.new) }
     ensures later { W.failures wire.old ≤ W.failures wire.new }
     ensures cause { OnErr result (Rose (W.failures wire.old) (W.failures wire.new)) }
 {
@@ -148,7 +155,7 @@ impl<W: Wire, F: LogFile, S: Source> Host<'_, '_, W, F, S> {
             (stage_in W.links W.failures F.told F.synced self.old)
             (stage_in W.links W.failures F.told F.synced self.new) }
         ensures written { OnOk result (self.new.own.now.batch ≡ []) }
-        ensures same { IsSame W.waited self.old self.new }
+        ensures same { IsSame W.waited F.failures self.old self.new }
         ensures device { IsErrOf result LoopFault.File → self.new.log.now.broken ≡ true }
         ensures quiet { AllWait self.old.node.now → OnOk result (AllWait self.new.node.now) }
         ensures closed { OnOk result (NoneDone self.new.own.now.connections) }
@@ -173,7 +180,7 @@ impl<W: Wire, F: LogFile, S: Source> Host<'_, '_, W, F, S> {
         ensures went { GoesTelling W.tells W.links W.failures F.told F.synced S.drawn result
             self.old self.new }
         ensures written { OnOk result (self.new.own.now.batch ≡ []) }
-        ensures same { IsSame W.waited self.old self.new }
+        ensures same { IsSame W.waited F.failures self.old self.new }
         ensures device { IsErrOf result LoopFault.File → self.new.log.now.broken ≡ true }
         ensures quiet { AllWait self.old.node.now → OnOk result (AllWait self.new.node.now) }
         ensures closed { OnOk result (NoneDone self.new.own.now.connections) }
@@ -197,7 +204,7 @@ impl<W: Wire, F: LogFile, S: Source> Host<'_, '_, W, F, S> {
             self.new }
         ensures written { OnOk result (self.new.own.now.batch ≡ []) }
         ensures closed { OnOk result (NoneDone self.new.own.now.connections) }
-        ensures same { IsSame W.waited self.old self.new }
+        ensures same { IsSame W.waited F.failures self.old self.new }
         ensures moment { OnOk result (moment_in S.drawn self.new ≡ moment_in S.drawn self.old) }
         ensures core { self.new.node.now.core ≡ self.old.node.now.core }
         ensures device { IsErrOf result LoopFault.File → self.new.log.now.broken ≡ true }
@@ -213,7 +220,7 @@ impl<W: Wire, F: LogFile, S: Source> Host<'_, '_, W, F, S> {
         ensures went { GoesAs W.tells W.links W.failures F.told F.synced S.drawn result self.old
             self.new }
         ensures written { OnOk result (self.new.own.now.batch ≡ []) }
-        ensures same { IsSame W.waited self.old self.new }
+        ensures same { IsSame W.waited F.failures self.old self.new }
         ensures moment { OnOk result (moment_in S.drawn self.new ≡ moment_in S.drawn self.old) }
         ensures core { self.new.node.now.core ≡ self.old.node.now.core }
         ensures device { IsErrOf result LoopFault.File → self.new.log.now.broken ≡ true }
@@ -228,7 +235,7 @@ impl<W: Wire, F: LogFile, S: Source> Host<'_, '_, W, F, S> {
     fn read_all(&mut self) -> Result<bool, LoopFault>
         ensures went { ReadsAs W.tells W.links W.failures F.told F.synced S.drawn result self.old
             self.new }
-        ensures same { IsSame W.waited self.old self.new }
+        ensures same { IsSame W.waited F.failures self.old self.new }
         ensures device { IsErrOf result LoopFault.File → self.new.log.now.broken ≡ true }
         ensures quiet { AllWait self.old.node.now → OnOk result (AllWait self.new.node.now) }
     {
@@ -243,7 +250,7 @@ impl<W: Wire, F: LogFile, S: Source> Host<'_, '_, W, F, S> {
     fn read_each(&mut self, piece: &mut [u8]) -> Result<bool, LoopFault>
         ensures went { ReadsAs W.tells W.links W.failures F.told F.synced S.drawn result self.old
             self.new }
-        ensures same { IsSame W.waited self.old self.new }
+        ensures same { IsSame W.waited F.failures self.old self.new }
         ensures device { IsErrOf result LoopFault.File → self.new.log.now.broken ≡ true }
         ensures quiet { AllWait self.old.node.now → OnOk result (AllWait self.new.node.now) }
     {
@@ -259,7 +266,7 @@ impl<W: Wire, F: LogFile, S: Source> Host<'_, '_, W, F, S> {
     fn read_at(&mut self, piece: &mut [u8], index: usize) -> Result<bool, LoopFault>
         ensures went { ReadsAs W.tells W.links W.failures F.told F.synced S.drawn result self.old
             self.new }
-        ensures same { IsSame W.waited self.old self.new }
+        ensures same { IsSame W.waited F.failures self.old self.new }
         ensures device { IsErrOf result LoopFault.File → self.new.log.now.broken ≡ true }
         ensures quiet { AllWait self.old.node.now → OnOk result (AllWait self.new.node.now) }
     {
@@ -275,7 +282,7 @@ impl<W: Wire, F: LogFile, S: Source> Host<'_, '_, W, F, S> {
     fn read_connection(&mut self, piece: &mut [u8], socket: LinkId) -> Result<bool, LoopFault>
         ensures went { GoesUpToAs W.tells W.links W.failures F.told F.synced S.drawn
             (pieces_by socket) most_pieces result self.old self.new }
-        ensures same { IsSame W.waited self.old self.new }
+        ensures same { IsSame W.waited F.failures self.old self.new }
         ensures device { IsErrOf result LoopFault.File → self.new.log.now.broken ≡ true }
         ensures quiet { AllWait self.old.node.now → OnOk result (AllWait self.new.node.now) }
     {

@@ -35,7 +35,7 @@ impl<W: Wire, F: LogFile, S: Source> Host<'_, '_, W, F, S> {
     pub(crate) fn write_all(&mut self)
         requires { self.old.own.now.batch ≡ [] }
         ensures went { Goes W.tells W.links W.failures F.told F.synced S.drawn self.old self.new }
-        ensures same { IsSame W.waited self.old self.new }
+        ensures same { IsSame W.waited F.failures self.old self.new }
         ensures batch { self.new.own.now.batch ≡ [] }
         ensures moment { moment_in S.drawn self.new ≡ moment_in S.drawn self.old }
         ensures core { self.new.node.now.core ≡ self.old.node.now.core }
@@ -53,7 +53,7 @@ impl<W: Wire, F: LogFile, S: Source> Host<'_, '_, W, F, S> {
     fn write_pieces(&mut self, socket: LinkId)
         requires { self.old.own.now.batch ≡ [] }
         ensures went { Goes W.tells W.links W.failures F.told F.synced S.drawn self.old self.new }
-        ensures same { IsSame W.waited self.old self.new }
+        ensures same { IsSame W.waited F.failures self.old self.new }
         ensures batch { self.new.own.now.batch ≡ [] }
         ensures moment { moment_in S.drawn self.new ≡ moment_in S.drawn self.old }
         ensures core { self.new.node.now.core ≡ self.old.node.now.core }
@@ -72,7 +72,7 @@ impl<W: Wire, F: LogFile, S: Source> Host<'_, '_, W, F, S> {
         requires filed { self.old.own.now.batch ≡ [] }
         requires has { HasLink self.old.own.now.connections socket link }
         ensures went { Goes W.tells W.links W.failures F.told F.synced S.drawn self.old self.new }
-        ensures same { IsSame W.waited self.old self.new }
+        ensures same { IsSame W.waited F.failures self.old self.new }
         ensures moment { moment_in S.drawn self.new ≡ moment_in S.drawn self.old }
         ensures there { result ≡ true →
             (self.new.node.now ≡ self.old.node.now) ×
@@ -92,7 +92,7 @@ impl<W: Wire, F: LogFile, S: Source> Host<'_, '_, W, F, S> {
     fn write_once(&mut self, socket: LinkId) -> Wrote
         requires { self.old.own.now.batch ≡ [] }
         ensures went { Goes W.tells W.links W.failures F.told F.synced S.drawn self.old self.new }
-        ensures same { IsSame W.waited self.old self.new }
+        ensures same { IsSame W.waited F.failures self.old self.new }
         ensures batch { self.new.own.now.batch ≡ [] }
         ensures moment { moment_in S.drawn self.new ≡ moment_in S.drawn self.old }
         ensures core { self.new.node.now.core ≡ self.old.node.now.core }
@@ -136,7 +136,7 @@ impl<W: Wire, F: LogFile, S: Source> Host<'_, '_, W, F, S> {
     /// Closes each connection whose end the node has closed, where all is written.
     pub(crate) fn close_done(&mut self)
         ensures went { Goes W.tells W.links W.failures F.told F.synced S.drawn self.old self.new }
-        ensures same { IsSame W.waited self.old self.new }
+        ensures same { IsSame W.waited F.failures self.old self.new }
         ensures batch { self.new.own.now.batch ≡ self.old.own.now.batch }
         ensures moment { moment_in S.drawn self.new ≡ moment_in S.drawn self.old }
         ensures node { self.new.node.now ≡ self.old.node.now }

@@ -5,6 +5,7 @@ use Rattle.std.specs.FinMap.{FinMap, get, insert, remove, keys, contains_key-key
 use Rattle.std.specs.List.{find, list_any}
 use Rattle.std.proofs.lemmas.Map.Views.{tells_apart}
 use Rattle.std.proofs.lemmas.Cmp.{eq_by_cmp_equiv}
+use Rattle.std.proofs.Math.Bool.{or-true}
 use Rattle.mr_links.specs.LinkId.{id_cmp}
 use Rattle.mr_links.specs.Links.{Links}
 use Rattle.mr_links.specs.declared.link_id.LinkId.{LinkId}
@@ -44,16 +45,12 @@ came_and_went a n s b l e absent came more same went kept = record {
   sent = refl;
 }
 
-or_true : (b : Bool) → (b || true) ≡ true
-or_true true = refl
-or_true false = refl
-
 -- what is found is there
 any_found : (p : LinkId → Bool) (l : LinkId) → eq_by_cmp id_cmp l l ≡ true → (xs : List LinkId) → find p xs ≡ Some l → list_any (eq_by_cmp id_cmp l) xs ≡ true
 any_found p l same [] h = cc
 any_found p l same (x ∷ xs) h = (elim (p x) as (λ b. cond b (Some x) (find p xs) ≡ Some l → (eq_by_cmp id_cmp l x || list_any (eq_by_cmp id_cmp l) xs) ≡ true) [
   | true ↦ λ e. ap (λ b. b || list_any (eq_by_cmp id_cmp l) xs) (ap (eq_by_cmp id_cmp l) ((let q : x ≡ l = cc in q)) ∙ same)
-  | false ↦ λ e. ap (λ b. eq_by_cmp id_cmp l x || b) (any_found p l same xs e) ∙ or_true (eq_by_cmp id_cmp l x)
+  | false ↦ λ e. ap (λ b. eq_by_cmp id_cmp l x || b) (any_found p l same xs e) ∙ or-true (eq_by_cmp id_cmp l x)
 ]) h
 
 -- a name that is found among those of the open links is one's

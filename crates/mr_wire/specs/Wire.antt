@@ -1,5 +1,5 @@
 -- What a wire tells of its links, and what each call makes of them.
-use Rattle.std.specs.Prelude.{◌≡◌, ℕ, ◌+◌, ◌≤◌, ◌==◌, List, [], ◌∷◌, ◌++◌, Bool, true, false, ◌||◌, Option, Some, None, take, if◌then◌else◌, nat_le, IfSome}
+use Rattle.std.specs.Prelude.{◌≡◌, ℕ, ◌+◌, ◌-◌, ◌^◌, ◌≤◌, ◌==◌, List, [], ◌∷◌, ◌++◌, Bool, true, false, ◌||◌, Option, Some, None, take, min, if◌then◌else◌, nat_le, IfSome}
 use Rattle.std.specs.FinMap as map
 use Rattle.std.specs.List.{find}
 use Rattle.mr_links.specs.LinkId.{id_cmp}
@@ -9,6 +9,7 @@ use Rattle.std.specs.declared.net.socket_addr.SocketAddrV4.{SocketAddrV4}
 use Rattle.mr_wire.specs.Peer.{Names}
 use Rattle.mr_wire.specs.declared.wire.Moved.{Moved}
 use Rattle.mr_wire.specs.declared.wire.Moved.TheVariants as moved
+use Rattle.mr_wire.specs.declared.waited.Waited.{Waited}
 
 -- what a wire tells of an open link
 pub record LinkState : Type 0 where
@@ -84,8 +85,8 @@ abbrev pub behind_write : Bool → Moved → List ℕ → LinkState → LinkStat
 behind_write tells m bytes e = record e { moved = e.moved ++ told tells (take (count_of m) bytes); ended = e.ended || is_over m; stuck = if tells then moves_none m else e.stuck }
 
 -- the bytes that a write moved, of a wire that tells them
-abbrev pub sent_by : Bool → Moved → List ℕ → List ℕ
-sent_by tells m bytes = told tells (take (count_of m) bytes)
+abbrev pub bytes_moved : Bool → Moved → List ℕ → List ℕ
+bytes_moved tells m bytes = told tells (take (count_of m) bytes)
 
 -- the link is open, becomes what this makes of it, and these bytes are sent on it; and nothing else
 abbrev pub ChangesLink : WireState → LinkId → (LinkState → LinkState) → List ℕ → WireState → Type 0
@@ -114,3 +115,8 @@ pub record AcceptsNone (a b : WireState) : Type 0 where
 -- the first open link at this place or behind it
 abbrev pub first_from : ℕ → Links LinkState → Option LinkId
 first_from place a = find (λ (l : LinkId). nat_le place l.index) (map.keys a.open_links)
+
+-- It is asked to wait once, for so many milliseconds. How often it was is counted up to the greatest number.
+pub record WaitsOnce (millis : ℕ) (before after : Waited) : Type 0 where
+  pub counted : after.times ≡ min (before.times + 1) (2 ^ 64 - 1)
+  pub for_so_long : after.millis ≡ millis

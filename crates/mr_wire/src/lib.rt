@@ -12,10 +12,12 @@ mod ready_links;
 mod sent_log;
 mod socket_wire;
 mod turning_away;
+mod waited;
 mod wire;
 
 pub use descriptors::{descriptor_limit, most_links};
 pub use mem_link::{MemLink, Reading, Writing};
 pub use mem_wire::{Accepting, Connecting, MemWire, Waiting};
 pub use socket_wire::SocketWire;
+pub use waited::Waited;
 pub use wire::{Failed, Moved, Wire};

@@ -1,12 +1,13 @@
 ghost use Rattle.std.specs.Prelude.{◌≡◌, ◌≤◌, ◌↔◌, [], true, length, None, IfOk, IfSome, IsSome, IsNone, OnErr};
 ghost use Rattle.std.specs.FinMap as map;
 ghost use Rattle.mr_file.specs.LogFile.{Rose};
-ghost use Rattle.mr_wire.specs.Wire.{Opens, ChangesLink, behind_read, behind_write, count_of, first_from, sent_by, wire_of};
+ghost use Rattle.mr_wire.specs.Wire.{Opens, ChangesLink, behind_read, behind_write, count_of, first_from, bytes_moved, wire_of};
 
 use crate::failures::Failures;
 use crate::mem_link::{MemLink, Reading, Writing};
 use crate::peer::peer_named;
 use crate::sent_log::SentLog;
+use crate::waited::Waited;
 use crate::wire::{Failed, Moved, Wire};
 use mr_links::{LINKS_LIMIT, LinkId, Links};
 use std::alloc::Global;
@@ -55,8 +56,7 @@ pub struct MemWire {
     /// The first place whose link wasn't named since the last wait.
     unnamed: usize,
     failed: Failures,
-    /// For how many milliseconds it was asked to wait last.
-    waited: u64,
+    waited: Waited,
 }
 
 impl MemWire {
@@ -71,6 +71,7 @@ impl MemWire {
         ensures opened { result.links.opened ≡ 0 }
         ensures sent { result.sent ≡ [] }
         ensures failed { result.failed.count ≡ 0 }
+        ensures waited { result.waited.times ≡ 0 }
     {
         MemWire {
             alloc,
@@ -81,7 +82,7 @@ impl MemWire {
             sent: SentLog::new(alloc),
             unnamed: 0,
             failed: Failures::new(),
-            waited: 0,
+            waited: Waited::never(),
         }
     }
 
@@ -97,8 +98,8 @@ impl MemWire {
         }
     }
 
-    /// For how many milliseconds it was asked to wait last.
-    pub fn waited(&self) -> u64
+    /// How often it was asked to wait, and for how long last.
+    pub fn waited(&self) -> Waited
         ensures { result ≡ self.now.waited }
     {
         self.waited
@@ -165,7 +166,7 @@ impl MemWire {
     fn write_link(&mut self, link: LinkId, bytes: &[u8]) -> Moved
         ensures within { count_of result ≤ length bytes.now }
         ensures written { ChangesLink (wire_of self.old.links self.old.sent) link
-            (behind_write true result bytes.now) (sent_by true result bytes.now)
+            (behind_write true result bytes.now) (bytes_moved true result bytes.now)
             (wire_of self.new.links self.new.sent) }
         ensures absent { map.get self.old.links.open_links link ≡ None →
             (result ≡ Moved.Failed) × (self.new.links ≡ self.old.links) ×
@@ -190,7 +191,7 @@ impl Wire for MemWire {
     ghost waited = { λ w. w.waited };
 
     fn wait(&mut self, millis: u64) -> Result<(), Failed> {
-        self.waited = millis;
+        self.waited.once_more(millis);
         self.unnamed = 0;
         match self.waits.pop_front() {
             Some(Waiting::Failed) => Err(self.failed.failure()),

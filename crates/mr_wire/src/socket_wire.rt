@@ -281,7 +281,7 @@ impl Wire for SocketWire {
 
     ghost failures = { λ w. w.failed.count };
 
-    ghost waited = { λ _. 0 };
+    ghost waited = { λ _. record { times = 0; millis = 0 } };
 
     fn wait(&mut self, millis: u64) -> Result<(), Failed> {
         put_back(&mut self.ready, &mut self.links);

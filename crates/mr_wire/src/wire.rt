@@ -1,7 +1,8 @@
 ghost use Rattle.std.specs.Prelude.{◌≡◌, ◌≤◌, [], Bool, true, ℕ, None, length, IfOk, IfSome, IfNone, IsSome, OnErr};
 ghost use Rattle.std.specs.FinMap as map;
 ghost use Rattle.mr_file.specs.LogFile.{Rose};
-ghost use Rattle.mr_wire.specs.Wire.{WireState, Accepts, AcceptsNone, Connects, ChangesLink, behind_read, behind_write, count_of, sent_by};
+ghost use Rattle.mr_wire.specs.declared.waited.Waited.{Waited};
+ghost use Rattle.mr_wire.specs.Wire.{WireState, Accepts, AcceptsNone, Connects, ChangesLink, WaitsOnce, behind_read, behind_write, count_of, bytes_moved};
 
 use mr_links::LinkId;
 use thiserror::Error;
@@ -25,8 +26,8 @@ pub enum Moved {
 }
 
 /// A wire has links, each under a name that is never given twice. One in memory tells the bytes that its reads gave and its
-/// writes moved, those of closed links too, whether the last write of a link moved none, and how long it was asked to wait; of one of
-/// the system they count as none. A failure is answered only where the count of failures rose, or stands at its greatest.
+/// writes moved, those of closed links too, whether the last write of a link moved none, and how often and how long it was asked to
+/// wait; of one of the system they count as none. A failure is answered only where the count of failures rose, or stands at its greatest.
 pub trait Wire {
     /// Whether it tells the bytes.
     ghost tells: { Bool };
@@ -36,13 +37,13 @@ pub trait Wire {
 
     ghost failures: { Self → ℕ };
 
-    /// For how many milliseconds it was asked to wait last, of a wire that tells the bytes.
-    ghost waited: { Self → ℕ };
+    /// How often it was asked to wait, and for how long last, of a wire that tells the bytes.
+    ghost waited: { Self → Waited };
 
     /// Waits until something is ready, and at most so many milliseconds.
     fn wait(&mut self, millis: u64) -> Result<(), Failed>
         ensures same { links self.new ≡ links self.old }
-        ensures waited { tells ≡ true → waited self.new ≡ millis }
+        ensures waited { tells ≡ true → WaitsOnce millis (waited self.old) (waited self.new) }
         ensures later { failures self.old ≤ failures self.new }
         ensures cause { OnErr result (Rose (failures self.old) (failures self.new)) };
 
@@ -92,7 +93,7 @@ pub trait Wire {
     fn write(&mut self, link: LinkId, bytes: &[u8]) -> Moved
         ensures within { count_of result ≤ length bytes.now }
         ensures written { ChangesLink (links self.old) link (behind_write tells result bytes.now)
-            (sent_by tells result bytes.now) (links self.new) }
+            (bytes_moved tells result bytes.now) (links self.new) }
         ensures absent { map.get (links self.old).open_links link ≡ None →
             (result ≡ Moved.Failed) × (links self.new ≡ links self.old) }
         ensures waited { waited self.new ≡ waited self.old }

@@ -1,8 +1,9 @@
-use Rattle.std.proofs.Common.{ap, refl, ◌∙◌}
-use Rattle.mr_wire.specs.Wire.{WireState}
+use Rattle.std.proofs.Common.{ap, refl, subst, sym}
+use Rattle.mr_wire.specs.Wire.{WaitsOnce, WireState}
 use Rattle.mr_loop.specs.Rows.{HasWaited}
 use Rattle.mr_loop.specs.Stage.{stage}
 use Rattle.mr_loop.proofs.Runs.{waited_turns}
+use Rattle.mr_loop.proofs.Same.{goes_still}
 use Rattle.mr_loop.proofs.turning.turn.Goals as goal
 
 pub returns-in-Ok-clause-went : goal.returns-in-Ok-clause-went
@@ -20,10 +21,10 @@ returns-in-Ok-clause-went g c =
     c.turn_at.ensures.went
 
 pub returns-in-Ok-clause-hurries : goal.returns-in-Ok-clause-hurries
-returns-in-Ok-clause-hurries g c = λ tells hurries. c.turn_at.ensures.waited ∙ c.wait.ensures.hurries tells hurries
+returns-in-Ok-clause-hurries g c = λ tells hurries. subst (λ z. WaitsOnce 0 (g.W.Wire.waited c.args.wire.now) z) (sym c.turn_at.ensures.waited) (c.wait.ensures.hurries tells hurries)
 
 pub returns-in-Ok-clause-waits : goal.returns-in-Ok-clause-waits
-returns-in-Ok-clause-waits g c = λ tells calm. c.turn_at.ensures.waited ∙ c.wait.ensures.waits tells calm
+returns-in-Ok-clause-waits g c = λ tells calm. subst (λ z. WaitsOnce 100 (g.W.Wire.waited c.args.wire.now) z) (sym c.turn_at.ensures.waited) (c.wait.ensures.waits tells calm)
 
 pub returns-in-Err-clause-went : goal.returns-in-Err-clause-went
 returns-in-Err-clause-went g c =
@@ -32,3 +33,6 @@ returns-in-Err-clause-went g c =
       is = ap (λ (w : WireState). stage c.args.node.now c.args.links.now w (g.W.Wire.failures c.wait.new.wire) (g.F.LogFile.told log.file) (g.F.LogFile.synced log.file)) c.wait.ensures.same;
       none_drawn = refl;
     }
+
+pub returns-in-Err-clause-goes : goal.returns-in-Err-clause-goes
+returns-in-Err-clause-goes g c = goes_still c.args.log.now

@@ -8,4 +8,4 @@ use Rattle.mr_loop.proofs.host.Host.carry_out.Given as goal
 abbrev pub invariant-loop-out : goal.invariant-loop-out
 invariant-loop-out g l =
     let on = stage_in g.W.Wire.links g.W.Wire.failures g.F.LogFile.told g.F.LogFile.synced in
-    SoFar (outs_of l.fn.outs) l.out-iterator (on l.fn.self) (on l.self) × (moment_in g.S.Source.drawn l.self ≡ moment_in g.S.Source.drawn l.fn.self) × IsSame g.W.Wire.waited l.fn.self l.self
+    SoFar (outs_of l.fn.outs) l.out-iterator (on l.fn.self) (on l.self) × (moment_in g.S.Source.drawn l.self ≡ moment_in g.S.Source.drawn l.fn.self) × IsSame g.W.Wire.waited g.F.LogFile.failures l.fn.self l.self

@@ -5,7 +5,7 @@ use Rattle.mr_loop.proofs.Writes.{closed_first, closed_on}
 use Rattle.mr_loop.proofs.host.Host.close_done.Goals as goal
 
 pub loop-socket-init : goal.loop-socket-init
-loop-socket-init g c = closed_first g.W.Wire.tells g.W.Wire.links g.W.Wire.failures g.W.Wire.waited g.F.LogFile.told g.F.LogFile.synced g.S.Source.drawn c.args.self.now
+loop-socket-init g c = closed_first g.W.Wire.tells g.W.Wire.links g.W.Wire.failures g.W.Wire.waited g.F.LogFile.failures g.F.LogFile.told g.F.LogFile.synced g.S.Source.drawn c.args.self.now
 
 pub loop-socket-smaller : goal.loop-socket-smaller
 loop-socket-smaller g c =
@@ -16,5 +16,5 @@ loop-socket-smaller g c =
 
 pub loop-socket-preserved : goal.loop-socket-preserved
 loop-socket-preserved g c =
-    closed_on g.W.Wire.tells g.W.Wire.links g.W.Wire.failures g.W.Wire.waited g.F.LogFile.told g.F.LogFile.synced g.S.Source.drawn c.args.self.now c.loop-socket.self c.drop_connection.new.self c.in-Some.socket c.loop-socket.invariant c.in-Some.ensures.some
+    closed_on g.W.Wire.tells g.W.Wire.links g.W.Wire.failures g.W.Wire.waited g.F.LogFile.failures g.F.LogFile.told g.F.LogFile.synced g.S.Source.drawn c.args.self.now c.loop-socket.self c.drop_connection.new.self c.in-Some.socket c.loop-socket.invariant c.in-Some.ensures.some
     c.drop_connection.ensures.dropped c.drop_connection.ensures.moment c.drop_connection.ensures.same

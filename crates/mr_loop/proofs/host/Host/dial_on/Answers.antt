@@ -7,6 +7,7 @@ use Rattle.mr_loop.specs.Stage.{LoopState, losing, stage}
 use Rattle.mr_loop.specs.Causes.{dials_and_closes, stays, stops_at_open}
 use Rattle.mr_loop.specs.Rows.{misses_dial, stops}
 use Rattle.mr_loop.specs.Hosts.{moment_in}
+use Rattle.mr_loop.proofs.Same.{goes_still}
 use Rattle.mr_loop.proofs.Arrivals.{closed_again, dialled_as, dialled_waits, full_row, lacks_row, ok_no_err}
 use Rattle.mr_loop.proofs.Runs.{broke_one, still_broke, still_one}
 use Rattle.mr_loop.proofs.Supplying.{tells_none}
@@ -74,7 +75,7 @@ returns-in-Err g c =
           (lacks_row
           (closed_again before (g.W.Wire.links c.args.self.now.wire.now) (g.W.Wire.links c.close-in-Err.new.self) c.args.socket (asked_link came.0) came.2 c.close-in-Err.ensures.closed c.close-in-Err.ensures.opened c.close-in-Err.ensures.sent)
           (subst (λ k. failed ≤ k) (sym c.close-in-Err.ensures.failures) later) (stays same) c.lose-in-Err.ensures (refl, refl)) refl;
-      same = record { node = refl; own = refl; wire = refl; log = refl; source = refl; mode = refl; wait_stays = c.close-in-Err.ensures.waited };
+      same = record { node = refl; own = refl; wire = refl; log = refl; source = refl; mode = refl; goes = goes_still _; wait_stays = c.close-in-Err.ensures.waited };
       device = λ wrong. absurd (ok_no_err tt fault.File wrong);
       quiet = λ q. all_is same q;
     }

@@ -6,7 +6,7 @@ use Rattle.mr_loop.specs.Hosts.{moment_in, stage_in}
 use Rattle.mr_loop.specs.Lacking.{lacked_since}
 use Rattle.mr_loop.specs.Stage.{LoopState}
 use Rattle.mr_loop.proofs.Rounds.{goes_broke, goes_on}
-use Rattle.mr_loop.proofs.Same.{same_on}
+use Rattle.mr_loop.proofs.Same.{goes_still, same_on}
 use Rattle.mr_loop.proofs.Runs.{limited_of, limited_on, still_moded}
 use Rattle.mr_loop.proofs.Ticks.{passes_moded}
 use Rattle.mr_loop.proofs.Turned.{passes_broke, tells_broke, told_of}
@@ -18,7 +18,7 @@ returns-in_err-reads-clause-went g c =
     let told : c.from_residual-in_err-reads.result ≡ Err why = search rules in
     let same1 = c.accept_all.ensures.same in
     let went1 = c.in_ok-accepts.ensures.went.still in
-    tells_broke (moment_in g.S.Source.drawn c.args.self.now) (moment_in g.S.Source.drawn c.read_all.new.self) c.from_residual-in_err-reads.result why told (goes_broke g.W.Wire.tells g.W.Wire.links g.W.Wire.failures g.W.Wire.waited g.F.LogFile.told g.F.LogFile.synced g.S.Source.drawn c.args.self.now c.accept_all.new.self c.read_all.new.self why same1 went1 c.in_err-reads.ensures.went)
+    tells_broke (moment_in g.S.Source.drawn c.args.self.now) (moment_in g.S.Source.drawn c.read_all.new.self) c.from_residual-in_err-reads.result why told (goes_broke g.W.Wire.tells g.W.Wire.links g.W.Wire.failures g.W.Wire.waited g.F.LogFile.failures g.F.LogFile.told g.F.LogFile.synced g.S.Source.drawn c.args.self.now c.accept_all.new.self c.read_all.new.self why same1 went1 c.in_err-reads.ensures.went)
 
 pub returns-in_err-send_all-clause-went : goal.returns-in_err-send_all-clause-went
 returns-in_err-send_all-clause-went g c =
@@ -26,9 +26,9 @@ returns-in_err-send_all-clause-went g c =
     let told : c.from_residual-in_err-send_all.result ≡ Err why = search rules in
     let same1 = c.accept_all.ensures.same in
     let went1 = c.in_ok-accepts.ensures.went.still in
-    let went2 = goes_on g.W.Wire.tells g.W.Wire.links g.W.Wire.failures g.W.Wire.waited g.F.LogFile.told g.F.LogFile.synced g.S.Source.drawn c.args.self.now c.accept_all.new.self c.read_all.new.self same1 went1 c.in_ok-reads.ensures.went.still in
+    let went2 = goes_on g.W.Wire.tells g.W.Wire.links g.W.Wire.failures g.W.Wire.waited g.F.LogFile.failures g.F.LogFile.told g.F.LogFile.synced g.S.Source.drawn c.args.self.now c.accept_all.new.self c.read_all.new.self same1 went1 c.in_ok-reads.ensures.went.still in
     let same2 = same_on c.args.self.now c.accept_all.new.self c.read_all.new.self same1 c.read_all.ensures.same in
-    tells_broke (moment_in g.S.Source.drawn c.args.self.now) (moment_in g.S.Source.drawn c.send_all.new.self) c.from_residual-in_err-send_all.result why told (goes_broke g.W.Wire.tells g.W.Wire.links g.W.Wire.failures g.W.Wire.waited g.F.LogFile.told g.F.LogFile.synced g.S.Source.drawn c.args.self.now c.read_all.new.self c.send_all.new.self why same2 went2 c.in_err-send_all.ensures.went)
+    tells_broke (moment_in g.S.Source.drawn c.args.self.now) (moment_in g.S.Source.drawn c.send_all.new.self) c.from_residual-in_err-send_all.result why told (goes_broke g.W.Wire.tells g.W.Wire.links g.W.Wire.failures g.W.Wire.waited g.F.LogFile.failures g.F.LogFile.told g.F.LogFile.synced g.S.Source.drawn c.args.self.now c.read_all.new.self c.send_all.new.self why same2 went2 c.in_err-send_all.ensures.went)
 
 pub returns-in_err-dial-clause-went : goal.returns-in_err-dial-clause-went
 returns-in_err-dial-clause-went g c =
@@ -36,11 +36,11 @@ returns-in_err-dial-clause-went g c =
     let told : c.from_residual-in_err-dial.result ≡ Err why = search rules in
     let same1 = c.accept_all.ensures.same in
     let went1 = c.in_ok-accepts.ensures.went.still in
-    let went2 = goes_on g.W.Wire.tells g.W.Wire.links g.W.Wire.failures g.W.Wire.waited g.F.LogFile.told g.F.LogFile.synced g.S.Source.drawn c.args.self.now c.accept_all.new.self c.read_all.new.self same1 went1 c.in_ok-reads.ensures.went.still in
+    let went2 = goes_on g.W.Wire.tells g.W.Wire.links g.W.Wire.failures g.W.Wire.waited g.F.LogFile.failures g.F.LogFile.told g.F.LogFile.synced g.S.Source.drawn c.args.self.now c.accept_all.new.self c.read_all.new.self same1 went1 c.in_ok-reads.ensures.went.still in
     let same2 = same_on c.args.self.now c.accept_all.new.self c.read_all.new.self same1 c.read_all.ensures.same in
-    let went3 = goes_on g.W.Wire.tells g.W.Wire.links g.W.Wire.failures g.W.Wire.waited g.F.LogFile.told g.F.LogFile.synced g.S.Source.drawn c.args.self.now c.read_all.new.self c.send_all.new.self same2 went2 c.in_ok-send_all.ensures.went in
+    let went3 = goes_on g.W.Wire.tells g.W.Wire.links g.W.Wire.failures g.W.Wire.waited g.F.LogFile.failures g.F.LogFile.told g.F.LogFile.synced g.S.Source.drawn c.args.self.now c.read_all.new.self c.send_all.new.self same2 went2 c.in_ok-send_all.ensures.went in
     let same3 = same_on c.args.self.now c.read_all.new.self c.send_all.new.self same2 c.send_all.ensures.same in
-    tells_broke (moment_in g.S.Source.drawn c.args.self.now) (moment_in g.S.Source.drawn c.dial.new.self) c.from_residual-in_err-dial.result why told (goes_broke g.W.Wire.tells g.W.Wire.links g.W.Wire.failures g.W.Wire.waited g.F.LogFile.told g.F.LogFile.synced g.S.Source.drawn c.args.self.now c.send_all.new.self c.dial.new.self why same3 went3 c.in_err-dial.ensures.went)
+    tells_broke (moment_in g.S.Source.drawn c.args.self.now) (moment_in g.S.Source.drawn c.dial.new.self) c.from_residual-in_err-dial.result why told (goes_broke g.W.Wire.tells g.W.Wire.links g.W.Wire.failures g.W.Wire.waited g.F.LogFile.failures g.F.LogFile.told g.F.LogFile.synced g.S.Source.drawn c.args.self.now c.send_all.new.self c.dial.new.self why same3 went3 c.in_err-dial.ensures.went)
 
 pub returns-in_err-due-clause-went : goal.returns-in_err-due-clause-went
 returns-in_err-due-clause-went g c =
@@ -48,13 +48,13 @@ returns-in_err-due-clause-went g c =
     let told : c.from_residual-in_err-due.result ≡ Err why = search rules in
     let same1 = c.accept_all.ensures.same in
     let went1 = c.in_ok-accepts.ensures.went.still in
-    let went2 = goes_on g.W.Wire.tells g.W.Wire.links g.W.Wire.failures g.W.Wire.waited g.F.LogFile.told g.F.LogFile.synced g.S.Source.drawn c.args.self.now c.accept_all.new.self c.read_all.new.self same1 went1 c.in_ok-reads.ensures.went.still in
+    let went2 = goes_on g.W.Wire.tells g.W.Wire.links g.W.Wire.failures g.W.Wire.waited g.F.LogFile.failures g.F.LogFile.told g.F.LogFile.synced g.S.Source.drawn c.args.self.now c.accept_all.new.self c.read_all.new.self same1 went1 c.in_ok-reads.ensures.went.still in
     let same2 = same_on c.args.self.now c.accept_all.new.self c.read_all.new.self same1 c.read_all.ensures.same in
-    let went3 = goes_on g.W.Wire.tells g.W.Wire.links g.W.Wire.failures g.W.Wire.waited g.F.LogFile.told g.F.LogFile.synced g.S.Source.drawn c.args.self.now c.read_all.new.self c.send_all.new.self same2 went2 c.in_ok-send_all.ensures.went in
+    let went3 = goes_on g.W.Wire.tells g.W.Wire.links g.W.Wire.failures g.W.Wire.waited g.F.LogFile.failures g.F.LogFile.told g.F.LogFile.synced g.S.Source.drawn c.args.self.now c.read_all.new.self c.send_all.new.self same2 went2 c.in_ok-send_all.ensures.went in
     let same3 = same_on c.args.self.now c.read_all.new.self c.send_all.new.self same2 c.send_all.ensures.same in
-    let went4 = goes_on g.W.Wire.tells g.W.Wire.links g.W.Wire.failures g.W.Wire.waited g.F.LogFile.told g.F.LogFile.synced g.S.Source.drawn c.args.self.now c.send_all.new.self c.dial.new.self same3 went3 c.in_ok-dial.ensures.went in
+    let went4 = goes_on g.W.Wire.tells g.W.Wire.links g.W.Wire.failures g.W.Wire.waited g.F.LogFile.failures g.F.LogFile.told g.F.LogFile.synced g.S.Source.drawn c.args.self.now c.send_all.new.self c.dial.new.self same3 went3 c.in_ok-dial.ensures.went in
     let same4 = same_on c.args.self.now c.send_all.new.self c.dial.new.self same3 c.dial.ensures.same in
-    tells_broke (moment_in g.S.Source.drawn c.args.self.now) (moment_in g.S.Source.drawn c.tick_all.new.self) c.from_residual-in_err-due.result why told (goes_broke g.W.Wire.tells g.W.Wire.links g.W.Wire.failures g.W.Wire.waited g.F.LogFile.told g.F.LogFile.synced g.S.Source.drawn c.args.self.now c.dial.new.self c.tick_all.new.self why same4 went4 c.in_err-due.ensures.went)
+    tells_broke (moment_in g.S.Source.drawn c.args.self.now) (moment_in g.S.Source.drawn c.tick_all.new.self) c.from_residual-in_err-due.result why told (goes_broke g.W.Wire.tells g.W.Wire.links g.W.Wire.failures g.W.Wire.waited g.F.LogFile.failures g.F.LogFile.told g.F.LogFile.synced g.S.Source.drawn c.args.self.now c.dial.new.self c.tick_all.new.self why same4 went4 c.in_err-due.ensures.went)
 
 pub returns-in_err-finish-clause-went : goal.returns-in_err-finish-clause-went
 returns-in_err-finish-clause-went g c =
@@ -62,13 +62,13 @@ returns-in_err-finish-clause-went g c =
     let told : c.from_residual-in_err-finish.result ≡ Err why = search rules in
     let same1 = c.accept_all.ensures.same in
     let went1 = c.in_ok-accepts.ensures.went.still in
-    let went2 = goes_on g.W.Wire.tells g.W.Wire.links g.W.Wire.failures g.W.Wire.waited g.F.LogFile.told g.F.LogFile.synced g.S.Source.drawn c.args.self.now c.accept_all.new.self c.read_all.new.self same1 went1 c.in_ok-reads.ensures.went.still in
+    let went2 = goes_on g.W.Wire.tells g.W.Wire.links g.W.Wire.failures g.W.Wire.waited g.F.LogFile.failures g.F.LogFile.told g.F.LogFile.synced g.S.Source.drawn c.args.self.now c.accept_all.new.self c.read_all.new.self same1 went1 c.in_ok-reads.ensures.went.still in
     let same2 = same_on c.args.self.now c.accept_all.new.self c.read_all.new.self same1 c.read_all.ensures.same in
-    let went3 = goes_on g.W.Wire.tells g.W.Wire.links g.W.Wire.failures g.W.Wire.waited g.F.LogFile.told g.F.LogFile.synced g.S.Source.drawn c.args.self.now c.read_all.new.self c.send_all.new.self same2 went2 c.in_ok-send_all.ensures.went in
+    let went3 = goes_on g.W.Wire.tells g.W.Wire.links g.W.Wire.failures g.W.Wire.waited g.F.LogFile.failures g.F.LogFile.told g.F.LogFile.synced g.S.Source.drawn c.args.self.now c.read_all.new.self c.send_all.new.self same2 went2 c.in_ok-send_all.ensures.went in
     let same3 = same_on c.args.self.now c.read_all.new.self c.send_all.new.self same2 c.send_all.ensures.same in
-    let went4 = goes_on g.W.Wire.tells g.W.Wire.links g.W.Wire.failures g.W.Wire.waited g.F.LogFile.told g.F.LogFile.synced g.S.Source.drawn c.args.self.now c.send_all.new.self c.dial.new.self same3 went3 c.in_ok-dial.ensures.went in
+    let went4 = goes_on g.W.Wire.tells g.W.Wire.links g.W.Wire.failures g.W.Wire.waited g.F.LogFile.failures g.F.LogFile.told g.F.LogFile.synced g.S.Source.drawn c.args.self.now c.send_all.new.self c.dial.new.self same3 went3 c.in_ok-dial.ensures.went in
     let same4 = same_on c.args.self.now c.send_all.new.self c.dial.new.self same3 c.dial.ensures.same in
-    tells_broke (moment_in g.S.Source.drawn c.args.self.now) (moment_in g.S.Source.drawn c.finish.new.self) c.from_residual-in_err-finish.result why told (passes_broke g.W.Wire.tells g.W.Wire.links g.W.Wire.failures g.W.Wire.waited g.F.LogFile.told g.F.LogFile.synced g.S.Source.drawn c.args.self.now c.dial.new.self c.tick_all.new.self c.finish.new.self why same4 went4 c.tick_all.ensures.same c.in_ok-due.ensures.went c.in_err-finish.ensures.went)
+    tells_broke (moment_in g.S.Source.drawn c.args.self.now) (moment_in g.S.Source.drawn c.finish.new.self) c.from_residual-in_err-finish.result why told (passes_broke g.W.Wire.tells g.W.Wire.links g.W.Wire.failures g.W.Wire.waited g.F.LogFile.failures g.F.LogFile.told g.F.LogFile.synced g.S.Source.drawn c.args.self.now c.dial.new.self c.tick_all.new.self c.finish.new.self why same4 went4 c.tick_all.ensures.same c.in_ok-due.ensures.went c.in_err-finish.ensures.went)
 
 pub returns-clause-went : goal.returns-clause-went
 returns-clause-went g c =
@@ -92,3 +92,37 @@ returns-clause-went g c =
 
 pub returns-clause-closed : goal.returns-clause-closed
 returns-clause-closed g c = subst (λ (o : LoopState). NoneDone o.connections) (sym c.set_hurries.ensures) c.in_ok-finish.ensures.closed
+
+pub returns-in_err-dial-clause-same : goal.returns-in_err-dial-clause-same
+returns-in_err-dial-clause-same g c =
+    let same1 = c.accept_all.ensures.same in
+    let same2 = same_on c.args.self.now c.accept_all.new.self c.read_all.new.self same1 c.read_all.ensures.same in
+    let same3 = same_on c.args.self.now c.read_all.new.self c.send_all.new.self same2 c.send_all.ensures.same in
+    same_on c.args.self.now c.send_all.new.self c.dial.new.self same3 c.dial.ensures.same
+
+pub returns-in_err-due-clause-same : goal.returns-in_err-due-clause-same
+returns-in_err-due-clause-same g c =
+    let same1 = c.accept_all.ensures.same in
+    let same2 = same_on c.args.self.now c.accept_all.new.self c.read_all.new.self same1 c.read_all.ensures.same in
+    let same3 = same_on c.args.self.now c.read_all.new.self c.send_all.new.self same2 c.send_all.ensures.same in
+    let same4 = same_on c.args.self.now c.send_all.new.self c.dial.new.self same3 c.dial.ensures.same in
+    same_on c.args.self.now c.dial.new.self c.tick_all.new.self same4 c.tick_all.ensures.same
+
+pub returns-in_err-finish-clause-same : goal.returns-in_err-finish-clause-same
+returns-in_err-finish-clause-same g c =
+    let same1 = c.accept_all.ensures.same in
+    let same2 = same_on c.args.self.now c.accept_all.new.self c.read_all.new.self same1 c.read_all.ensures.same in
+    let same3 = same_on c.args.self.now c.read_all.new.self c.send_all.new.self same2 c.send_all.ensures.same in
+    let same4 = same_on c.args.self.now c.send_all.new.self c.dial.new.self same3 c.dial.ensures.same in
+    let same5 = same_on c.args.self.now c.dial.new.self c.tick_all.new.self same4 c.tick_all.ensures.same in
+    same_on c.args.self.now c.tick_all.new.self c.finish.new.self same5 c.finish.ensures.same
+
+pub returns-clause-same : goal.returns-clause-same
+returns-clause-same g c =
+    let same1 = c.accept_all.ensures.same in
+    let same2 = same_on c.args.self.now c.accept_all.new.self c.read_all.new.self same1 c.read_all.ensures.same in
+    let same3 = same_on c.args.self.now c.read_all.new.self c.send_all.new.self same2 c.send_all.ensures.same in
+    let same4 = same_on c.args.self.now c.send_all.new.self c.dial.new.self same3 c.dial.ensures.same in
+    let same5 = same_on c.args.self.now c.dial.new.self c.tick_all.new.self same4 c.tick_all.ensures.same in
+    let same6 = same_on c.args.self.now c.tick_all.new.self c.finish.new.self same5 c.finish.ensures.same in
+    same_on c.args.self.now c.finish.new.self _ same6 (record { node = refl; own = refl; wire = refl; log = refl; source = refl; mode = refl; goes = goes_still _; wait_stays = refl })

@@ -15,10 +15,11 @@ use Rattle.mr_follower.specs.Rows as follow
 use Rattle.mr_follower.specs.declared.phase.Phase.{Phase}
 use Rattle.mr_follower.specs.declared.phase.Phase.TheVariants.{Ping, Port, Capabilities, Psync, Snapshot, Stream}
 use Rattle.mr_node_spec.specs.State.{Core, IsNode, NodeState, end_of, shown}
+use Rattle.mr_node_spec.proofs.Nothing.{waits_nothing}
 use Rattle.mr_node.specs.Calls.{Agreeing, Unreads}
 use Rattle.mr_node.specs.Calls.Agreeing.{client, waiting, replica, master, shut}
 use Rattle.mr_loop.specs.Quiet.{AllWait, Awaits, IsStill, OthersWait}
-use Rattle.mr_loop.proofs.Nothing.{line_nothing, waits_nothing}
+use Rattle.mr_loop.proofs.Nothing.{line_nothing}
 use Rattle.mr_loop.proofs.Stepped.{absent_still, client_still, followed_end, master_still, replica_still, shut_still, waiting_still}
 use Rattle.mr_loop.proofs.Waiting.{all_of, none_some, some_is}
 use Rattle.mr_loop.proofs.host.Host.has_unread.Goals as goal

@@ -8,6 +8,7 @@ use Rattle.mr_loop.specs.Stage.{LoopState, losing}
 use Rattle.mr_loop.specs.Causes.{opens_and_closes, stays, stops_at_open}
 use Rattle.mr_loop.specs.Rows.{joins, stops, turns_away}
 use Rattle.mr_loop.specs.Hosts.{moment_in}
+use Rattle.mr_loop.proofs.Same.{goes_still}
 use Rattle.mr_loop.proofs.Arrivals.{closed_again, full_row, lacks_row}
 use Rattle.mr_loop.specs.Counting.{accepts_by}
 use Rattle.mr_loop.proofs.Runs.{broke_one, reaches_one, still_broke, still_one}
@@ -68,7 +69,7 @@ returns-in-Err g c =
           (lacks_row
           (closed_again before (g.W.Wire.links c.args.self.now.wire.now) (g.W.Wire.links c.close-in-Err.new.self) c.args.socket new_link came c.close-in-Err.ensures.closed c.close-in-Err.ensures.opened c.close-in-Err.ensures.sent)
           (subst (λ k. failed ≤ k) (sym c.close-in-Err.ensures.failures) later) (stays same) c.lose-in-Err.ensures (refl, refl)) refl (omega arith);
-      same = record { node = refl; own = refl; wire = refl; log = refl; source = refl; mode = refl; wait_stays = c.close-in-Err.ensures.waited };
+      same = record { node = refl; own = refl; wire = refl; log = refl; source = refl; mode = refl; goes = goes_still _; wait_stays = c.close-in-Err.ensures.waited };
       device = λ e. absurd (no_fault e);
       quiet = λ q. all_is same q;
     }

@@ -13,7 +13,7 @@ use Rattle.mr_loop.specs.Rows.{idles, is_refused, stops}
 use Rattle.mr_loop.proofs.Arrivals.{dropped_from}
 use Rattle.mr_loop.proofs.Linked.{carried_linked}
 use Rattle.mr_loop.proofs.Outs.{acts_less, counts_call, lacks_memory, never_closed, news_at, not_told, refused_all, steps_at, steps_once}
-use Rattle.mr_loop.proofs.Same.{same_on}
+use Rattle.mr_loop.proofs.Same.{goes_still, same_on}
 use Rattle.mr_loop.proofs.Runs.{breaks, broke_one}
 use Rattle.mr_loop.proofs.Stepped.{done_others, idle_all}
 use Rattle.mr_loop.proofs.Supplying.{given_none, gives_step, tells_one}
@@ -150,7 +150,7 @@ returns-in-Err g c =
           (record { has = c.requires.has; node = c.step.new.self; refused = record { input = c.requires.input; row = row; sound = c.sound-in-Err.ensures }; unread = c.unread.result; counted = c.unread.ensures.count; dropped = dropped_from (record (stage_in g.W.Wire.links g.W.Wire.failures g.F.LogFile.told g.F.LogFile.synced c.args.self.now) { node = c.step.new.self }) _ c.step.new.self c.lose.new.self _ refl (c.lose.ensures ∙ ap (λ w. losing w c.args.self.now.own.now) (c.asked_at.ensures ∙ (ap (λ p. asked_at p c.told_or_none-unread.result) c.place-place.ensures ∙ ap (asked_at _) c.told_or_none-unread.ensures))) c.drop_connection.ensures.dropped })
           (given_none fresh old.fresh c.fresh-fresh.ensures) (tells_one c.given-given.ensures.forward (ap (λ (m : MomentState). m.drawn) c.drop_connection.ensures.moment ∙ c.given-given.ensures.drawn))
           (ap (λ (m : MomentState). m.fresh) c.drop_connection.ensures.moment ∙ c.count_step.ensures.fresh) (ap (λ (m : MomentState). m.turn) c.drop_connection.ensures.moment ∙ c.count_step.ensures.turn);
-      same = same_on c.args.self.now _ c.drop_connection.new.self (record { node = refl; own = refl; wire = refl; log = refl; source = refl; mode = refl; wait_stays = refl }) c.drop_connection.ensures.same;
+      same = same_on c.args.self.now _ c.drop_connection.new.self (record { node = refl; own = refl; wire = refl; log = refl; source = refl; mode = refl; goes = goes_still _; wait_stays = refl }) c.drop_connection.ensures.same;
       device = λ e. cc;
       quiet = refused_all a c.step.new.self c.drop_connection.new.self.node.now c.args.link given fresh c.requires.input row c.drop_connection.ensures.dropped.node;
       linked = λ e. cc;

@@ -9,11 +9,12 @@ use Rattle.mr_loop.specs.Going.{TicksAs}
 use Rattle.mr_loop.specs.Hosts.{moment_in, stage_in}
 use Rattle.mr_loop.specs.Rows.{stops}
 use Rattle.mr_loop.specs.Stage.{LoopState}
+use Rattle.mr_loop.proofs.Same.{goes_still}
 use Rattle.mr_loop.proofs.Outs.{not_told}
 use Rattle.mr_loop.proofs.Runs.{broke_one}
 use Rattle.mr_loop.proofs.Supplying.{renewed_none, tells_one}
 use Rattle.mr_loop.proofs.Taking.{tick_takes}
-use Rattle.mr_loop.proofs.Ticks.{misses_once, missed_same, missed_up, more_due, ticks_once}
+use Rattle.mr_loop.proofs.Ticks.{misses_once, missed_due, missed_same, missed_up, more_due, ticks_once}
 use Rattle.mr_loop.proofs.Waiting.{all_is, carried_all, ticked_all}
 use Rattle.mr_loop.proofs.host.Host.tick.Goals as goal
 
@@ -69,12 +70,13 @@ returns-in-Err g c =
         went = misses_once s (record s { node = c.tick.new.self; own = c.lack.new.self }) c.given-given.result old (record old { drawn = g.S.Source.drawn c.given-given.new.source }) c.given-given.ensures.forward
             (ap (λ d. record old { drawn = d }) c.given-given.ensures.drawn) (record {
               up = missed_up c.args.self.now.node.now c.tick.new.self c.given-given.result.now c.in-Err._refused other c.in-Err.ensures;
+              due = missed_due c.args.self.now.node.now c.tick.new.self c.given-given.result.now c.in-Err._refused other c.in-Err.ensures;
               is = ap (λ n. record s { node = n; own = c.lack.new.self }) same ∙ ap (λ (o : LoopState). record s { own = o }) c.lack.ensures;
             });
         keeps_up = λ due. inr (omega arith);
         goes_on = λ e. cc;
       };
-      same = record { node = refl; own = refl; wire = refl; log = refl; source = refl; mode = refl; wait_stays = refl };
+      same = record { node = refl; own = refl; wire = refl; log = refl; source = refl; mode = refl; goes = goes_still _; wait_stays = refl };
       device = λ e. cc;
       quiet = λ q. all_is same q;
     }

@@ -8,7 +8,7 @@ abbrev pub invariant-loop-left : goal.invariant-loop-left
 invariant-loop-left g l =
     let on = stage_in g.W.Wire.links g.W.Wire.failures g.F.LogFile.told g.F.LogFile.synced in
     PassesSoFar g.W.Wire.tells l.fn.self.log.now.mode (most_ticks l.fn.self.moment.turn.done) l.left (moment_in g.S.Source.drawn l.fn.self) (moment_in g.S.Source.drawn l.self) (on l.fn.self) (on l.self)
-    × IsSame g.W.Wire.waited l.fn.self l.self × (AllWait l.fn.self.node.now → AllWait l.self.node.now)
+    × IsSame g.W.Wire.waited g.F.LogFile.failures l.fn.self l.self × (AllWait l.fn.self.node.now → AllWait l.self.node.now)
 
 abbrev pub decreases-loop-left : goal.decreases-loop-left
 decreases-loop-left g l = l.left

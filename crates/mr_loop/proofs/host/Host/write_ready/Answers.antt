@@ -5,7 +5,7 @@ use Rattle.mr_loop.proofs.Same.{same_on}
 use Rattle.mr_loop.proofs.host.Host.write_ready.Goals as goal
 
 pub loop-init : goal.loop-init
-loop-init g c = writes_first g.W.Wire.tells g.W.Wire.links g.W.Wire.failures g.W.Wire.waited g.F.LogFile.told g.F.LogFile.synced g.S.Source.drawn c.args.socket c.args.link c.args.self.now c.requires.filed c.requires.has
+loop-init g c = writes_first g.W.Wire.tells g.W.Wire.links g.W.Wire.failures g.W.Wire.waited g.F.LogFile.failures g.F.LogFile.told g.F.LogFile.synced g.S.Source.drawn c.args.socket c.args.link c.args.self.now c.requires.filed c.requires.has
 
 pub write_once-requires : goal.write_once-requires
 write_once-requires g c = c.loop.invariant.batch
@@ -37,7 +37,7 @@ returns-in-Gone-clause-gone g c = λ gone. c.in-Gone.ensures.wrote c.args.link c
 pub loop-preserved : goal.loop-preserved
 loop-preserved g c =
     let wrote = (moved_on g.W.Wire.tells c.write_once.result (g.W.Wire.links c.write_once.new.self.wire.now) c.args.socket c.args.link c.loop.self.node.now c.write_once.new.self.node.now c.loop.self.own.now c.write_once.new.self.own.now c.in-Whole.is (c.write_once.ensures.wrote c.args.link c.loop.invariant.has)) in
-    writes_on g.W.Wire.tells g.W.Wire.links g.W.Wire.failures g.W.Wire.waited g.F.LogFile.told g.F.LogFile.synced g.S.Source.drawn c.args.socket c.args.link c.args.self.now c.loop.self c.write_once.new.self c.loop.invariant (record {
+    writes_on g.W.Wire.tells g.W.Wire.links g.W.Wire.failures g.W.Wire.waited g.F.LogFile.failures g.F.LogFile.told g.F.LogFile.synced g.S.Source.drawn c.args.socket c.args.link c.args.self.now c.loop.self c.write_once.new.self c.loop.invariant (record {
       went = c.write_once.ensures.went;
       same = c.write_once.ensures.same;
       batch = c.write_once.ensures.batch;
