@@ -1,8 +1,6 @@
 //! The calls that lines name.
-use crate::fault::RehearsalFault;
-use hex::FromHexError;
-use mr_bytes::read_i64;
 use mr_data::Given;
+use rehearse_shared::{RehearsalFault, bytes_of, given_of, place_of};
 use std::alloc::Global;
 
 /// A call.
@@ -84,9 +82,9 @@ fn alone(name: &str) -> Result<Call, RehearsalFault> {
 /// The call that a name and one word name. Fails where they name none.
 fn with_one(alloc: Global, name: &str, word: &str) -> Result<Call, RehearsalFault> {
     match name {
-        "step" => Ok(Call::OnNode(NodeCall::Step(place(word)?))),
-        "room" => Ok(Call::OnNode(NodeCall::Room(place(word)?))),
-        "close" => Ok(Call::OnNode(NodeCall::Close(place(word)?))),
+        "step" => Ok(Call::OnNode(NodeCall::Step(place_of(word)?))),
+        "room" => Ok(Call::OnNode(NodeCall::Room(place_of(word)?))),
+        "close" => Ok(Call::OnNode(NodeCall::Close(place_of(word)?))),
         _ => Ok(Call::OnDataset(on_bytes(name, bytes_of(alloc, word)?)?)),
     }
 }
@@ -105,9 +103,9 @@ fn on_bytes(name: &str, bytes: Vec<u8>) -> Result<DatasetCall, RehearsalFault> {
 /// The call that a name and two words name. Fails where they name none.
 fn with_two(alloc: Global, name: &str, first: &str, second: &str) -> Result<Call, RehearsalFault> {
     match name {
-        "given" => given(first, second),
+        "given" => Ok(Call::Given(given_of(first, second)?)),
         "feed" => {
-            let link = place(first)?;
+            let link = place_of(first)?;
             Ok(Call::OnNode(NodeCall::Feed(link, bytes_of(alloc, second)?)))
         }
         _ => Err(RehearsalFault::Line),
@@ -119,38 +117,5 @@ pub fn backlog_of(line: &str) -> Result<usize, RehearsalFault> {
     let Some(("start", backlog)) = line.split_once(' ') else {
         return Err(RehearsalFault::Line);
     };
-    place(backlog)
-}
-
-/// The call that gives a moment in milliseconds and a random word. Fails where the moment is none.
-fn given(now: &str, word: &str) -> Result<Call, RehearsalFault> {
-    match Given::new(number(now)?, number(word)?.unsigned_abs()) {
-        Some(given) => Ok(Call::Given(given)),
-        None => Err(RehearsalFault::Line),
-    }
-}
-
-/// The place of a link that a word spells.
-fn place(word: &str) -> Result<usize, RehearsalFault> {
-    Ok(number(word)?.unsigned_abs() as usize)
-}
-
-/// A number that isn't below 0.
-fn number(word: &str) -> Result<i64, RehearsalFault> {
-    match read_i64(word.as_bytes()) {
-        Some(number) if number >= 0 => Ok(number),
-        _ => Err(RehearsalFault::Line),
-    }
-}
-
-/// The bytes that hexadecimal digits spell; a `-` is no byte.
-fn bytes_of(alloc: Global, word: &str) -> Result<Vec<u8>, RehearsalFault> {
-    if word == "-" {
-        return Ok(Vec::new(alloc));
-    }
-    match hex::decode(alloc, word) {
-        Ok(bytes) => Ok(bytes),
-        Err(FromHexError::OutOfMemory) => Err(RehearsalFault::Memory),
-        Err(_) => Err(RehearsalFault::Line),
-    }
+    place_of(backlog)
 }

@@ -1,10 +1,9 @@
 //! Effects and requests on a dataset alone.
 use crate::call::{DatasetCall, Way};
-use crate::fault::RehearsalFault;
-use crate::telling::{tell, tell_bytes, tell_refusal};
 use mr_commands::{Answer, plan_words};
 use mr_data::{ApplyFault, Dataset, Effect, Given, decode, encode};
 use mr_resp::{Scan, next_command, next_request, write_reply};
+use rehearse_shared::{RehearsalFault, tell, tell_bytes, tell_refusal};
 use std::alloc::Global;
 
 /// Makes a call, and writes what it answered.
@@ -65,18 +64,23 @@ fn apply(
     let Some(effect) = decode(alloc, words.as_slice())? else {
         return tell(out, "no effect");
     };
+    let able = held.applies(&effect);
     if let Way::Moved = way {
-        return tell_applied(alloc, held.apply_owned(effect), out);
+        return tell_applied(alloc, able, held.apply_owned(effect), out);
     }
-    tell_applied(alloc, held.apply(&effect), out)
+    tell_applied(alloc, able, held.apply(&effect), out)
 }
 
-/// Writes whether an effect was applied, or why it was refused.
+/// Writes whether an effect was applied, or why it was refused. It is refused where it isn't able to be, as was seen before.
 fn tell_applied(
     alloc: Global,
+    able: bool,
     applied: Result<(), ApplyFault>,
     out: &mut Vec<u8>,
 ) -> Result<(), RehearsalFault> {
+    if able == matches!(applied, Err(ApplyFault::Refused)) {
+        return tell(out, "seen otherwise");
+    }
     match applied {
         Ok(()) => tell(out, "applied"),
         Err(fault) => tell_refusal(alloc, fault, out),

@@ -1,12 +1,12 @@
 //! A node, and the links that were opened on it.
 use crate::call::NodeCall;
-use crate::fault::RehearsalFault;
-use crate::telling::{tell, tell_outs, tell_refusal};
+use crate::telling::tell_outs;
 use mr_data::{Dataset, Given};
 use mr_links::LinkId;
 use mr_node::{Config, Node, Step};
 use mr_node_output::Outs;
 use mr_repl::ReplId;
+use rehearse_shared::{RehearsalFault, tell, tell_refusal};
 use std::alloc::Global;
 
 /// A node, and the links that were opened on it in order.

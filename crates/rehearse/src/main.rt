@@ -27,13 +27,12 @@
 
 mod call;
 mod dataset;
-mod fault;
 mod host;
 mod stage;
 mod telling;
 
 use call::Call;
-use fault::RehearsalFault;
+use rehearse_shared::RehearsalFault;
 use stage::Stage;
 use std::alloc::Global;
 use std::hash::RandomState;

@@ -1,11 +1,10 @@
 //! A node and its links, and a dataset beside it.
 use crate::call::{Call, Role};
 use crate::dataset;
-use crate::fault::RehearsalFault;
 use crate::host::Host;
-use crate::telling::tell;
 use mr_data::{Dataset, Given};
 use mr_node::Config;
+use rehearse_shared::{RehearsalFault, tell};
 use std::alloc::Global;
 use std::hash::RandomState;
 use std::mem;

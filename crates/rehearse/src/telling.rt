@@ -1,34 +1,9 @@
 //! What a call answered, written.
-use crate::fault::RehearsalFault;
 use mr_links::LinkId;
 use mr_node_output::{Address, Out, Outs};
 use mr_repl::ReplId;
+use rehearse_shared::{RehearsalFault, tell, tell_bytes};
 use std::alloc::Global;
-use std::fmt::Display;
-
-/// Writes a text behind what was written.
-pub fn tell(out: &mut Vec<u8>, text: &str) -> Result<(), RehearsalFault> {
-    out.extend_from_slice(text.as_bytes())?;
-    Ok(())
-}
-
-/// Writes why a call was refused.
-pub fn tell_refusal<F: Display + Drop>(
-    alloc: Global,
-    fault: F,
-    out: &mut Vec<u8>,
-) -> Result<(), RehearsalFault> {
-    tell(out, format!(in alloc; "refused: {fault}")?.as_str())
-}
-
-/// A space and the bytes.
-pub fn tell_bytes(alloc: Global, bytes: &[u8], out: &mut Vec<u8>) -> Result<(), RehearsalFault> {
-    if bytes.is_empty() {
-        return tell(out, " -");
-    }
-    tell(out, " ")?;
-    tell(out, hex::encode(alloc, bytes)?.as_str())
-}
 
 /// The outs of a step, a letter each in their order, and then the bytes of the reply, of the effects, and of a file that is replaced.
 pub fn tell_outs(alloc: Global, outs: &Outs, out: &mut Vec<u8>) -> Result<(), RehearsalFault> {

@@ -1,12 +1,13 @@
 //! A node, and the links that were opened on it.
-use crate::fault::RehearsalFault;
-use crate::line::{Line, bytes_of, given_of, id_of, place_of};
-use crate::telling::{tell, tell_bytes, tell_count, tell_outs, tell_refusal};
+use crate::telling::{tell_count, tell_outs};
 use mr_data::{Dataset, Given};
 use mr_links::LinkId;
 use mr_node::{Config, Node, Role, Step};
 use mr_node_output::Outs;
 use mr_repl::ReplId;
+use rehearse_shared::{
+    Line, RehearsalFault, bytes_of, given_of, id_of, place_of, tell, tell_bytes, tell_refusal,
+};
 use std::alloc::Global;
 use std::hash::RandomState;
 

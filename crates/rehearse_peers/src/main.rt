@@ -25,14 +25,11 @@
 //! A call that the node refuses is answered `refused: ` and why.
 #![tactic(auto)]
 
-mod fault;
 mod host;
-mod line;
 mod stage;
 mod telling;
 
-use fault::RehearsalFault;
-use line::Line;
+use rehearse_shared::{Line, RehearsalFault};
 use stage::Stage;
 use std::hash::RandomState;
 use std::io::{BufRead, BufReader, Write};

@@ -1,12 +1,10 @@
 //! Nodes side by side.
-use crate::fault::RehearsalFault;
 use crate::host::Host;
-use crate::line::{Line, bytes_of, id_of, place_of, port_of};
-use crate::telling::tell;
 use mr_data::Dataset;
 use mr_groups::{Loaded, load_groups};
 use mr_node::Config;
 use mr_repl::ReplId;
+use rehearse_shared::{Line, RehearsalFault, bytes_of, id_of, place_of, port_of, tell};
 use std::alloc::Global;
 use std::hash::RandomState;
 
@@ -30,7 +28,7 @@ impl Stage {
 
     /// Makes the call that a line names, and writes what came of it.
     pub fn make(&mut self, line: Line<'_>, out: &mut Vec<u8>) -> Result<(), RehearsalFault> {
-        let number = place_of(line.node)?;
+        let number = place_of(line.number)?;
         if line.name == "start" {
             return self.start(number, line, out);
         }

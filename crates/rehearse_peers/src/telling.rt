@@ -1,42 +1,8 @@
 //! What a call answered, written.
-use crate::fault::RehearsalFault;
 use mr_links::LinkId;
 use mr_node_output::{Address, Out, Outs};
+use rehearse_shared::{RehearsalFault, tell, tell_bytes, tell_shown};
 use std::alloc::Global;
-use std::fmt::Display;
-
-/// Writes a text behind what was written.
-pub fn tell(out: &mut Vec<u8>, text: &str) -> Result<(), RehearsalFault> {
-    out.extend_from_slice(text.as_bytes())?;
-    Ok(())
-}
-
-/// A space and the bytes.
-pub fn tell_bytes(alloc: Global, bytes: &[u8], out: &mut Vec<u8>) -> Result<(), RehearsalFault> {
-    if bytes.is_empty() {
-        return tell(out, " -");
-    }
-    tell(out, " ")?;
-    tell(out, hex::encode(alloc, bytes)?.as_str())
-}
-
-/// A space and what is shown.
-pub fn tell_shown<S: Display + Drop>(
-    alloc: Global,
-    shown: S,
-    out: &mut Vec<u8>,
-) -> Result<(), RehearsalFault> {
-    tell(out, format!(in alloc; " {shown}")?.as_str())
-}
-
-/// Writes why a call was refused.
-pub fn tell_refusal<F: Display + Drop>(
-    alloc: Global,
-    fault: F,
-    out: &mut Vec<u8>,
-) -> Result<(), RehearsalFault> {
-    tell(out, format!(in alloc; "refused: {fault}")?.as_str())
-}
 
 /// A count, or that the link isn't there.
 pub fn tell_count(

@@ -230,7 +230,7 @@ impl Wire for JoinedWire {
 
     ghost failures = { λ w. w.failed };
 
-    ghost waited = { λ _. 0 };
+    ghost waited = { λ _. record { times = 0; millis = 0 } };
 
     fn wait(&mut self, _millis: u64) -> Result<(), Failed> {
         self.unnamed = 0;

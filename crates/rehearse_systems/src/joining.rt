@@ -1,12 +1,12 @@
 //! What becomes of connections.
 use crate::connection::{Connection, Holder, Side, Tip};
 use crate::end::Rest;
-use crate::fault::RehearsalFault;
-use crate::line::{Line, bytes_of, place_of, side_of};
+use crate::line::side_of;
 use crate::system::{FIRST_PORT, System};
-use crate::telling::{tell, tell_bytes, tell_number, tell_told};
+use crate::telling::{tell_number, tell_told};
 use crate::told::{Opened, Told};
 use mr_links::LinkId;
+use rehearse_shared::{Line, RehearsalFault, bytes_of, place_of, tell, tell_bytes};
 use std::net::{Ipv4Addr, SocketAddrV4};
 
 /// The number of the server whose address this is.

@@ -24,7 +24,6 @@
 
 mod connection;
 mod end;
-mod fault;
 mod joined_wire;
 mod joining;
 mod line;
@@ -34,8 +33,7 @@ mod system;
 mod telling;
 mod told;
 
-use fault::RehearsalFault;
-use line::Line;
+use rehearse_shared::{Line, RehearsalFault};
 use std::hash::RandomState;
 use std::io::{BufRead, BufReader, Write};
 use std::process::ExitCode;

@@ -1,10 +1,9 @@
 //! A server that runs, and what its turns need.
 ghost use Rattle.std.specs.Prelude.{◌≡◌, [], IsTrue, false, true};
 
-use crate::fault::RehearsalFault;
 use crate::joined_wire::JoinedWire;
 use crate::source::NumberedSource;
-use crate::telling::{tell, tell_bytes, tell_fault, tell_shown, tell_turn};
+use crate::telling::tell_turn;
 use mr_aof::Log;
 use mr_data::Given;
 use mr_file::MemFile;
@@ -12,6 +11,7 @@ use mr_links::LinkId;
 use mr_loop::{Links, turn};
 use mr_node::{Node, Role, Step};
 use mr_repl::ReplId;
+use rehearse_shared::{RehearsalFault, tell, tell_bytes, tell_fault, tell_shown};
 use std::alloc::Global;
 use std::hash::RandomState;
 

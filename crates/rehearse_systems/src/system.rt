@@ -1,15 +1,15 @@
 //! Servers, and the connections between them and to clients.
 use crate::connection::Connection;
-use crate::fault::RehearsalFault;
 use crate::joined_wire::JoinedWire;
-use crate::line::{Line, count_of, is_replica, mode_of, place_of};
+use crate::line::mode_of;
 use crate::server::Server;
 use crate::source::NumberedSource;
-use crate::telling::{tell, tell_number};
+use crate::telling::tell_number;
 use mr_aof::{Loaded, Log};
 use mr_file::{MemFile, SyncMode};
 use mr_node::{Config, Node};
 use mr_source::Source;
+use rehearse_shared::{Line, RehearsalFault, count_of, is_replica, place_of, tell};
 use std::alloc::Global;
 use std::hash::RandomState;
 use std::mem;

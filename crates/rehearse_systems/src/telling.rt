@@ -1,34 +1,9 @@
 //! What an event answered, written.
 use crate::connection::{Side, Tip};
-use crate::fault::RehearsalFault;
 use crate::told::Told;
 use mr_loop::Turn;
+use rehearse_shared::{RehearsalFault, tell, tell_bytes, tell_shown};
 use std::alloc::Global;
-use std::fmt::Display;
-
-/// Writes a text behind what was written.
-pub fn tell(out: &mut Vec<u8>, text: &str) -> Result<(), RehearsalFault> {
-    out.extend_from_slice(text.as_bytes())?;
-    Ok(())
-}
-
-/// A space and the bytes.
-pub fn tell_bytes(alloc: Global, bytes: &[u8], out: &mut Vec<u8>) -> Result<(), RehearsalFault> {
-    if bytes.is_empty() {
-        return tell(out, " -");
-    }
-    tell(out, " ")?;
-    tell(out, hex::encode(alloc, bytes)?.as_str())
-}
-
-/// A space and what is shown.
-pub fn tell_shown<S: Display + Drop>(
-    alloc: Global,
-    shown: S,
-    out: &mut Vec<u8>,
-) -> Result<(), RehearsalFault> {
-    tell(out, format!(in alloc; " {shown}")?.as_str())
-}
 
 /// A word, a space and a number.
 pub fn tell_number(
@@ -39,15 +14,6 @@ pub fn tell_number(
 ) -> Result<(), RehearsalFault> {
     tell(out, word)?;
     tell_shown(alloc, number, out)
-}
-
-/// Why the loop ends.
-pub fn tell_fault<F: Display + Drop>(
-    alloc: Global,
-    fault: F,
-    out: &mut Vec<u8>,
-) -> Result<(), RehearsalFault> {
-    tell(out, format!(in alloc; "fault: {fault}")?.as_str())
 }
 
 /// What a turn counted.

@@ -1,14 +1,14 @@
 //! A node, and what its turns need.
 ghost use Rattle.std.specs.Prelude.{◌≡◌, [], IsTrue, false, true};
 
-use crate::fault::RehearsalFault;
 use crate::heard_wire::HeardWire;
 use crate::listed_source::ListedSource;
-use crate::telling::{tell, tell_bytes, tell_fault, tell_link, tell_shown, tell_turn};
+use crate::telling::{tell_link, tell_turn};
 use mr_aof::{Loaded, Log, load_groups};
 use mr_file::MemFile;
-use mr_loop::{Links, serve, turn};
+use mr_loop::{Links, Unwatched, serve, turn};
 use mr_node::{Node, Role};
+use rehearse_shared::{RehearsalFault, tell, tell_bytes, tell_fault, tell_shown};
 use std::alloc::Global;
 use std::hash::RandomState;
 
@@ -111,7 +111,7 @@ impl Host {
             &mut self.wire,
             &mut self.log,
             &mut self.source,
-            turns,
+            &mut Unwatched { turns },
         ) {
             Ok(()) => {
                 if is_up(&self.node) {

@@ -1,7 +1,6 @@
 //! The file that a node is to start with, and which of its calls fail.
-use crate::fault::RehearsalFault;
-use crate::line::{bytes_of, count_of};
 use mr_file::{MemFile, SyncMode};
+use rehearse_shared::{RehearsalFault, bytes_of, count_of};
 use std::alloc::Global;
 use std::mem;
 

@@ -4,11 +4,10 @@ ghost use Rattle.mr_repl.specs.ReplId.{zero_id};
 ghost use Rattle.mr_data.specs.Given.{IsMoment};
 ghost use Rattle.mr_source.specs.Drawn.{drawn_at};
 
-use crate::fault::RehearsalFault;
-use crate::line::{count_of, id_of};
 use mr_data::LAST_MOMENT;
 use mr_repl::ReplId;
 use mr_source::Source;
+use rehearse_shared::{RehearsalFault, count_of, id_of};
 use std::alloc::Global;
 use std::collections::VecDeque;
 use std::mem;

@@ -1,7 +1,6 @@
 //! What the calls on a wire are to come to.
-use crate::fault::RehearsalFault;
-use crate::line::{bytes_of, count_of};
 use mr_wire::{Accepting, Connecting, MemWire, Reading, Waiting, Writing};
+use rehearse_shared::{RehearsalFault, bytes_of, count_of};
 use std::alloc::Global;
 use std::collections::VecDeque;
 use std::mem;

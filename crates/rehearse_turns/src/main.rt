@@ -30,7 +30,6 @@
 //! | `links` | `links`, and behind a `;` each link that was accepted or dialled, in order: `accepted` or `dialled`, and `open READ BYTES` or `closed READ BYTES`, with how many bytes were read and what was written, or `failed`; and of one that was dialled ADDRESS:PORT |
 #![tactic(auto)]
 
-mod fault;
 mod heard;
 mod heard_wire;
 mod host;
@@ -41,8 +40,8 @@ mod listed_wire;
 mod stage;
 mod telling;
 
-use fault::RehearsalFault;
 use line::Line;
+use rehearse_shared::RehearsalFault;
 use stage::Stage;
 use std::hash::RandomState;
 use std::io::{BufRead, BufReader, Write};

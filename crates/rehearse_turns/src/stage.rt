@@ -1,15 +1,14 @@
 //! What is listed, and the node that starts with it.
-use crate::fault::RehearsalFault;
 use crate::heard_wire::HeardWire;
 use crate::host::Host;
-use crate::line::{Line, count_of, id_of, is_replica, port_of};
+use crate::line::Line;
 use crate::listed_file::ListedFile;
 use crate::listed_source::ListedSource;
 use crate::listed_wire::ListedWire;
-use crate::telling::tell;
 use mr_aof::{Loaded, Log, LogFault};
 use mr_node::{Config, Node};
 use mr_repl::ReplId;
+use rehearse_shared::{RehearsalFault, count_of, id_of, is_replica, port_of, tell};
 use std::alloc::Global;
 use std::hash::RandomState;
 

@@ -1,12 +1,11 @@
 //! What is read of words, where no reply tells it.
-use crate::fault::RehearsalFault;
 use crate::kind::Kind;
-use crate::step::{Step, bytes_of, number_of};
-use crate::telling::{tell, tell_shown};
+use crate::step::Step;
 use mr_arguments::Name;
 use mr_ask::{Group, read};
 use mr_cmd_string::Amount;
 use mr_resp::{Scan, next_request};
+use rehearse_shared::{RehearsalFault, bytes_of, number_of, tell, tell_shown};
 use std::alloc::Global;
 
 /// Commands have no state.

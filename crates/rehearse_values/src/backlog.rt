@@ -1,9 +1,9 @@
 //! Backlogs.
-use crate::fault::RehearsalFault;
 use crate::kind::Kind;
-use crate::step::{Step, bytes_of, count_of};
-use crate::telling::{tell, tell_bytes, tell_shown, tell_whether};
+use crate::step::Step;
+use crate::telling::tell_whether;
 use mr_repl::{Backlog, MOST_BACKLOG};
+use rehearse_shared::{RehearsalFault, bytes_of, count_of, tell, tell_bytes, tell_shown};
 use std::alloc::Global;
 
 /// The greatest offset that a step may name.

@@ -1,13 +1,13 @@
 //! A node's course: its role, its stream, and what it reads of its master.
-use crate::fault::RehearsalFault;
 use crate::follower::name_of;
 use crate::kind::Kind;
 use crate::lineage::{MOST, tell_lineage};
-use crate::step::{Step, bytes_of, count_of, id_of, link_of};
-use crate::telling::{tell, tell_bytes, tell_shown, tell_whether};
+use crate::step::{Step, link_of};
+use crate::telling::tell_whether;
 use mr_data::Dataset;
 use mr_repl::{Lineage, MOST_BACKLOG};
 use mr_replication::{Course, UpstreamStep};
+use rehearse_shared::{RehearsalFault, bytes_of, count_of, id_of, tell, tell_bytes, tell_shown};
 use std::alloc::Global;
 use std::hash::RandomState;
 

@@ -1,10 +1,12 @@
 //! Datasets: effects that are made and not read, what is seen, and what a step is given.
-use crate::fault::RehearsalFault;
 use crate::kind::Kind;
-use crate::step::{Step, bytes_of, count_of, number_of};
-use crate::telling::{tell, tell_bytes, tell_shown, tell_whether};
+use crate::step::Step;
+use crate::telling::tell_whether;
 use mr_bytes::Word;
 use mr_data::{ApplyFault, Dataset, Effect, EffectPairs, EffectWords, End, Given, Scores};
+use rehearse_shared::{
+    RehearsalFault, bytes_of, count_of, number_of, tell, tell_bytes, tell_shown,
+};
 use std::alloc::Global;
 
 impl Kind for Dataset {

@@ -1,11 +1,10 @@
 //! Followers.
-use crate::fault::RehearsalFault;
 use crate::kind::Kind;
-use crate::step::{Step, bytes_of, count_of, id_of};
-use crate::telling::{tell, tell_bytes, tell_shown};
+use crate::step::Step;
 use mr_data::Dataset;
 use mr_follower::{FollowFault, Follower, Heard, Phase};
 use mr_repl::{OFFSET_LIMIT, ReplId};
+use rehearse_shared::{RehearsalFault, bytes_of, count_of, id_of, tell, tell_bytes, tell_shown};
 use std::alloc::Global;
 use std::hash::RandomState;
 

@@ -1,12 +1,11 @@
 //! Groups of effects: what stands at the front of bytes, and what groups make of a dataset.
-use crate::fault::RehearsalFault;
 use crate::kind::Kind;
-use crate::step::{Step, bytes_of};
-use crate::telling::{tell, tell_bytes, tell_shown};
+use crate::step::Step;
 use mr_data::Dataset;
 use mr_groups::{
     GroupFault, Loaded, Next, apply_group, apply_group_owned, encode_group, load_groups, next_group,
 };
+use rehearse_shared::{RehearsalFault, bytes_of, tell, tell_bytes, tell_shown};
 use std::alloc::Global;
 use std::hash::RandomState;
 

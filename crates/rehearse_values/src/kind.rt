@@ -1,6 +1,6 @@
 //! Kinds of values, and the steps of a line on one of them.
-use crate::fault::RehearsalFault;
 use crate::step::Step;
+use rehearse_shared::RehearsalFault;
 use std::alloc::Global;
 
 /// A value on which steps call.

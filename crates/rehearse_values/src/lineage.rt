@@ -1,12 +1,11 @@
 //! Streams with their names.
 use crate::backlog::tell_tail;
-use crate::fault::RehearsalFault;
 use crate::kind::Kind;
 use crate::roles::tell_role;
 use crate::standing::tell_answer;
-use crate::step::{Step, bytes_of, count_of, id_of, number_of};
-use crate::telling::{tell, tell_shown};
+use crate::step::Step;
 use mr_repl::{Lineage, MOST_BACKLOG, decide};
+use rehearse_shared::{RehearsalFault, bytes_of, count_of, id_of, number_of, tell, tell_shown};
 use std::alloc::Global;
 
 /// The greatest offset that a step may name.

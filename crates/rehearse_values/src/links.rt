@@ -1,9 +1,9 @@
 //! Links under their ids, each a number.
-use crate::fault::RehearsalFault;
 use crate::kind::Kind;
-use crate::step::{Step, count_of, link_of};
-use crate::telling::{tell, tell_before, tell_shown, tell_whether};
+use crate::step::{Step, link_of};
+use crate::telling::{tell_before, tell_whether};
 use mr_links::{LINKS_LIMIT, LinkId, Links};
+use rehearse_shared::{RehearsalFault, count_of, tell, tell_shown};
 use std::alloc::Global;
 
 impl Kind for Links<u64> {

@@ -1,10 +1,10 @@
 //! Lists.
-use crate::fault::RehearsalFault;
 use crate::kind::Kind;
-use crate::step::{Step, bytes_of};
-use crate::telling::{tell, tell_bytes, tell_whether};
+use crate::step::Step;
+use crate::telling::tell_whether;
 use mr_bytes::Bytes;
 use mr_value::{CompactBytes, ListValue};
+use rehearse_shared::{RehearsalFault, bytes_of, tell, tell_bytes};
 use std::alloc::Global;
 
 impl Kind for ListValue {

@@ -11,6 +11,8 @@
 //! | `sorted` | `put MEMBER SCORE`: `was SCORE`, `none`; `min`, `max`: `taken MEMBER SCORE`, `none`; `pairs`: `pairs COUNT MEMBER SCORE ..` |
 //! | `keyed` | `insert KEY NUMBER`: `was NUMBER`, `none`; `empty`: `empty` or `not empty` |
 //! | `slices` | `insert NUMBER` under the one key `k`, and `empty`: as of `keyed` |
+//! | `packed` | of a run of short strings: `push STRING`, `front STRING`, `insert PLACE STRING`, `two PLACE STRING STRING`, `replace PLACE STRING`, and of another run `append`, all of it, and `part FROM TO`: `put`; `remove PLACE`, `drop FROM TO`: `dropped`; `swap`, of the two runs: `swapped`; `first`, `last`, `at PLACE`: `string STRING`; `is PLACE STRING`: `is` or `is not`; `order PLACE STRING`: `less`, `equal` or `greater`; `find STRING STEP`: `at PLACE` or `none`; `shows`: `shows COUNT STRING ..`; `back`, from the back, and `ends`, from the front and twice from the back in turn: `back STRING ..`, `ends STRING ..` |
+//! | `pairs` | `insert PLACE FIRST SECOND`, `replace PLACE SECOND`: `put`; `remove PLACE`: `dropped`; `at PLACE`: `pair FIRST SECOND`; `find FIRST`: `at PLACE` or `none`; `seek FIRST`: `at PLACE` or `before PLACE`; `shows`: `shows COUNT FIRST SECOND ..`; `back`: `back FIRST SECOND ..` |
 //! | `links` | `insert LINK`: `id PLACE BEFORE`; `get`, `remove`, each with an id: `was LINK`, `none`; `contains ID`: `open` or `gone`; `set ID LINK`: `set`, `none`; `replace ID LINK`: `was LINK`, `none`; `shows`: `shows OPENED COUNT ID LINK ..`; `ids`: `ids ID ..` |
 //! | `id` | `new BYTES`, `read DIGITS`, `number NUMBER`, `zeros`: `id SHOWN DIGITS BYTES`, with `zeros` behind it where it stands for none, or `no id`; `order NUMBER NUMBER`: `less` or `not less` |
 //! | `backlog` | `new CAPACITY OFFSET`: `begun`; `push BYTES`: `pushed`; `restart OFFSET`: `restarted`; `tail FROM`: `tail BYTES` or `not held`; `shows`: `shows CAPACITY LENGTH FIRST END` |
@@ -36,7 +38,6 @@ mod asks;
 mod backlog;
 mod course;
 mod dataset;
-mod fault;
 mod follower;
 mod groups;
 mod ids;
@@ -46,6 +47,8 @@ mod links;
 mod list;
 mod maps;
 mod memory_wire;
+mod packed;
+mod pairs;
 mod parts;
 mod peer;
 mod requests;
@@ -62,7 +65,6 @@ mod wires;
 use asks::Asks;
 use backlog::Stream;
 use course::Node;
-use fault::RehearsalFault;
 use follower::Replica;
 use groups::Groups;
 use ids::Ids;
@@ -72,12 +74,15 @@ use memory_wire::MemoryWire;
 use mr_data::Dataset;
 use mr_links::Links;
 use mr_map::{KeyedMap, SliceMap};
+use mr_packed::PackedPairs;
 use mr_source::SystemSource;
 use mr_unsent::Unsent;
 use mr_value::ListValue;
 use mr_zset::ZSet;
+use packed::Runs;
 use parts::Parts;
 use peer::PeerLines;
+use rehearse_shared::RehearsalFault;
 use requests::Requests;
 use sockets::Sockets;
 use standing::play_place;
@@ -139,6 +144,8 @@ fn play_stateless(
         "request" => play(alloc, Requests::new(), steps, out),
         "standing" => play_place(alloc, steps, out),
         "links" => play(alloc, Links::<u64>::new(alloc), steps, out),
+        "packed" => play(alloc, Runs::new(alloc), steps, out),
+        "pairs" => play(alloc, PackedPairs::new(alloc), steps, out),
         "backlog" => play(alloc, Stream::new(), steps, out),
         "lineage" => play(alloc, NamedStream::new(), steps, out),
         "unsent" => play(alloc, Unsent::new(alloc), steps, out),

@@ -1,9 +1,9 @@
 //! Maps under byte keys.
-use crate::fault::RehearsalFault;
 use crate::kind::Kind;
-use crate::step::{Step, bytes_of, count_of};
+use crate::step::Step;
 use crate::telling::{tell_before, tell_whether};
 use mr_map::{KeyedMap, SliceMap};
+use rehearse_shared::{RehearsalFault, bytes_of, count_of};
 use std::alloc::Global;
 
 impl Kind for KeyedMap<u64> {

@@ -1,10 +1,9 @@
 //! Wires in memory.
-use crate::fault::RehearsalFault;
 use crate::kind::Kind;
-use crate::step::{Step, bytes_of, count_of, link_of};
-use crate::telling::{tell, tell_bytes, tell_shown};
+use crate::step::{Step, link_of};
 use crate::wires::on_wire;
 use mr_wire::{Accepting, Connecting, MemWire, Reading, Waiting, Writing};
+use rehearse_shared::{RehearsalFault, bytes_of, count_of, tell, tell_bytes, tell_shown};
 use std::alloc::Global;
 use std::collections::VecDeque;
 use std::mem;

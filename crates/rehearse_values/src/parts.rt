@@ -1,10 +1,10 @@
 //! What effects are made of.
-use crate::fault::RehearsalFault;
 use crate::kind::Kind;
-use crate::step::{Step, bytes_of, number_of};
-use crate::telling::{tell, tell_bytes, tell_shown, tell_whether};
+use crate::step::Step;
+use crate::telling::tell_whether;
 use mr_bytes::Word;
 use mr_effect::{EffectName, EffectPairs, EffectWords, Scores};
+use rehearse_shared::{RehearsalFault, bytes_of, number_of, tell, tell_bytes, tell_shown};
 use std::alloc::Global;
 
 /// The parts have no state.

@@ -2,15 +2,14 @@
 ghost use Rattle.std.specs.Prelude.{◌≤◌, IfOk};
 ghost use Rattle.mr_repl.specs.Backlog.{offset_limit};
 
-use crate::fault::RehearsalFault;
 use crate::kind::Kind;
-use crate::step::{Step, bytes_of, count_of, id_of};
-use crate::telling::{tell, tell_bytes, tell_shown};
+use crate::step::Step;
 use mr_peer_lines::{
     PeerLine, PeerLineScan, PsyncReply, next_line, read_offset, read_reply, write_continue,
     write_full, write_length,
 };
 use mr_repl::{OFFSET_LIMIT, ReplId};
+use rehearse_shared::{RehearsalFault, bytes_of, count_of, id_of, tell, tell_bytes, tell_shown};
 use std::alloc::Global;
 
 /// Lines have no state.

@@ -1,13 +1,12 @@
 //! Requests: their limits, what of them is borrowed, and how they are written.
-use crate::fault::RehearsalFault;
 use crate::kind::Kind;
-use crate::step::{Step, bytes_of, count_of};
-use crate::telling::{tell, tell_bytes, tell_shown};
+use crate::step::Step;
 use mr_inline::{LineScan, next_line};
 use mr_resp::{
     Fault, Limits, Scan, next_command, next_request, next_request_within, push_request, push_word,
     push_word_count, write_request,
 };
+use rehearse_shared::{RehearsalFault, bytes_of, count_of, tell, tell_bytes, tell_shown};
 use std::alloc::Global;
 use std::borrow::CowSlice;
 

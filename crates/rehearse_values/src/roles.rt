@@ -1,10 +1,9 @@
 //! What a node tells of its role, by INFO and by ROLE.
-use crate::fault::RehearsalFault;
-use crate::step::{Step, bytes_of, count_of, number_of};
-use crate::telling::{tell, tell_bytes};
+use crate::step::Step;
 use mr_info::{MasterLink, Replica, info, master_role, replica_role};
 use mr_repl::{Backlog, Lineage};
 use mr_resp::{Reply, write_reply};
+use rehearse_shared::{RehearsalFault, bytes_of, count_of, number_of, tell, tell_bytes};
 use std::alloc::Global;
 
 /// What is told of a node with these names of its stream.

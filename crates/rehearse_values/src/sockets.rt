@@ -1,10 +1,9 @@
 //! Wires over the system's sockets.
-use crate::fault::RehearsalFault;
 use crate::kind::Kind;
-use crate::step::{Step, port_of};
-use crate::telling::{tell, tell_shown};
+use crate::step::Step;
 use crate::wires::on_wire;
 use mr_wire::SocketWire;
+use rehearse_shared::{RehearsalFault, port_of, tell, tell_shown};
 use std::alloc::Global;
 use std::net::{Ipv4Addr, SocketAddr};
 

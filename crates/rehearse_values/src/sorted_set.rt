@@ -1,11 +1,11 @@
 //! Sorted sets.
-use crate::fault::RehearsalFault;
 use crate::kind::Kind;
-use crate::step::{Step, bytes_of, number_of};
-use crate::telling::{tell, tell_before, tell_bytes, tell_shown};
+use crate::step::Step;
+use crate::telling::tell_before;
 use mr_bytes::Bytes;
 use mr_score::is_score;
 use mr_zset::ZSet;
+use rehearse_shared::{RehearsalFault, bytes_of, number_of, tell, tell_bytes, tell_shown};
 use std::alloc::Global;
 
 impl Kind for ZSet {

@@ -1,10 +1,9 @@
 //! What the system gives.
-use crate::fault::RehearsalFault;
 use crate::ids::tell_id;
 use crate::kind::Kind;
 use crate::step::Step;
-use crate::telling::{tell, tell_shown};
 use mr_source::{Source, SystemSource};
+use rehearse_shared::{RehearsalFault, tell, tell_shown};
 use std::alloc::Global;
 
 impl Kind for SystemSource {

@@ -1,9 +1,8 @@
 //! Who may go on from where a node stands.
-use crate::fault::RehearsalFault;
 use crate::kind::{Kind, play};
-use crate::step::{Step, count_of, id_of, number_of};
-use crate::telling::{tell, tell_shown};
+use crate::step::Step;
 use mr_repl::{PsyncAnswer, ReplId, Standing, decide};
+use rehearse_shared::{RehearsalFault, count_of, id_of, number_of, tell, tell_shown};
 use std::alloc::Global;
 
 /// Where a node stands: at first under the id of zeros, before any byte.

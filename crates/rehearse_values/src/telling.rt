@@ -1,13 +1,8 @@
 //! What a call answered, written.
-use crate::fault::RehearsalFault;
+use rehearse_shared::{RehearsalFault, tell, tell_shown};
 use std::alloc::Global;
+use std::cmp::Ordering;
 use std::fmt::Display;
-
-/// Writes a text behind what was written.
-pub fn tell(out: &mut Vec<u8>, text: &str) -> Result<(), RehearsalFault> {
-    out.extend_from_slice(text.as_bytes())?;
-    Ok(())
-}
 
 /// One text or the other.
 pub fn tell_whether(
@@ -17,24 +12,6 @@ pub fn tell_whether(
     other: &str,
 ) -> Result<(), RehearsalFault> {
     tell(out, if holds { text } else { other })
-}
-
-/// A space and the bytes.
-pub fn tell_bytes(alloc: Global, bytes: &[u8], out: &mut Vec<u8>) -> Result<(), RehearsalFault> {
-    if bytes.is_empty() {
-        return tell(out, " -");
-    }
-    tell(out, " ")?;
-    tell(out, hex::encode(alloc, bytes)?.as_str())
-}
-
-/// A space and what is shown.
-pub fn tell_shown<S: Display + Drop>(
-    alloc: Global,
-    shown: S,
-    out: &mut Vec<u8>,
-) -> Result<(), RehearsalFault> {
-    tell(out, format!(in alloc; " {shown}")?.as_str())
 }
 
 /// The number that stood there, if one did.
@@ -49,5 +26,29 @@ pub fn tell_before<S: Display + Drop>(
             tell_shown(alloc, number, out)
         }
         None => tell(out, "none"),
+    }
+}
+
+/// The place that was found, if one was.
+pub fn tell_place(
+    alloc: Global,
+    place: Option<usize>,
+    out: &mut Vec<u8>,
+) -> Result<(), RehearsalFault> {
+    match place {
+        Some(at) => {
+            tell(out, "at")?;
+            tell_shown(alloc, at, out)
+        }
+        None => tell(out, "none"),
+    }
+}
+
+/// How two values compare.
+pub fn tell_order(out: &mut Vec<u8>, order: Ordering) -> Result<(), RehearsalFault> {
+    match order {
+        Ordering::Less => tell(out, "less"),
+        Ordering::Equal => tell(out, "equal"),
+        Ordering::Greater => tell(out, "greater"),
     }
 }

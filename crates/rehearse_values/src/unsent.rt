@@ -1,9 +1,9 @@
 //! What waits to be sent on a link.
-use crate::fault::RehearsalFault;
 use crate::kind::Kind;
-use crate::step::{Step, bytes_of, count_of};
-use crate::telling::{tell, tell_bytes, tell_shown, tell_whether};
+use crate::step::Step;
+use crate::telling::tell_whether;
 use mr_unsent::Unsent;
+use rehearse_shared::{RehearsalFault, bytes_of, count_of, tell, tell_bytes, tell_shown};
 use std::alloc::Global;
 use std::rc::Rc;
 

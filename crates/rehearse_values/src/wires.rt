@@ -2,11 +2,10 @@
 ghost use Rattle.std.specs.Prelude.{◌≤◌, length};
 ghost use Rattle.mr_wire.specs.Wire as spec;
 
-use crate::fault::RehearsalFault;
-use crate::step::{Step, bytes_of, count_of, link_of, port_of};
-use crate::telling::{tell, tell_bytes, tell_shown};
+use crate::step::{Step, link_of};
 use mr_links::LinkId;
 use mr_wire::{Failed, Moved, Wire};
+use rehearse_shared::{RehearsalFault, bytes_of, count_of, port_of, tell, tell_bytes, tell_shown};
 use std::alloc::Global;
 
 /// So often a call is made again, each time once something is ready or a second is over.

@@ -1,51 +1,34 @@
-//! The words of a line, and what they say.
+// What the words of a line say.
 use crate::fault::RehearsalFault;
 use hex::FromHexError;
 use mr_data::Given;
 use mr_repl::ReplId;
 use std::alloc::Global;
 
-/// A line: the name of a call, the node that it is made on, and its arguments. Those that aren't there are empty.
-#[derive(Clone, Copy)]
-pub struct Line<'a> {
-    pub name: &'a str,
-    pub node: &'a str,
-    pub first: &'a str,
-    pub second: &'a str,
-    pub third: &'a str,
-    pub fourth: &'a str,
-    pub fifth: &'a str,
-}
-
-impl<'a> Line<'a> {
-    /// The words of a line.
-    pub fn read(text: &'a str) -> Line<'a> {
-        let mut words = text.split(' ');
-        let name = words.next().unwrap_or("");
-        let node = words.next().unwrap_or("");
-        let first = words.next().unwrap_or("");
-        let second = words.next().unwrap_or("");
-        let third = words.next().unwrap_or("");
-        let fourth = words.next().unwrap_or("");
-        let fifth = words.next().unwrap_or("");
-        Line {
-            name,
-            node,
-            first,
-            second,
-            third,
-            fourth,
-            fifth,
-        }
-    }
-}
-
-/// The bytes that hexadecimal digits spell.
+/// The bytes that hexadecimal digits spell, or as many of one as stand behind a `*`.
 pub fn bytes_of(alloc: Global, word: &str) -> Result<Vec<u8>, RehearsalFault> {
     if word == "-" {
         return Ok(Vec::new(alloc));
     }
-    match hex::decode(alloc, word) {
+    match word.split_once('*') {
+        Some((byte, count)) => run_of(alloc, byte, count),
+        None => decoded(alloc, word),
+    }
+}
+
+/// As many of a byte as a number says.
+fn run_of(alloc: Global, byte: &str, count: &str) -> Result<Vec<u8>, RehearsalFault> {
+    let count = count_of(count)? as usize;
+    let bytes = decoded(alloc, byte)?;
+    match bytes.first() {
+        Some(byte) => Ok(Vec::from_elem(alloc, *byte, count)?),
+        None => Err(RehearsalFault::Line),
+    }
+}
+
+/// The bytes of hexadecimal digits alone.
+fn decoded(alloc: Global, digits: &str) -> Result<Vec<u8>, RehearsalFault> {
+    match hex::decode(alloc, digits) {
         Ok(bytes) => Ok(bytes),
         Err(FromHexError::OutOfMemory) => Err(RehearsalFault::Memory),
         Err(_) => Err(RehearsalFault::Line),
@@ -65,7 +48,15 @@ pub fn place_of(word: &str) -> Result<usize, RehearsalFault> {
     Ok(count_of(word)? as usize)
 }
 
-/// A port.
+/// A number with a sign or none.
+pub fn number_of(word: &str) -> Result<i64, RehearsalFault> {
+    match word.parse::<i64>() {
+        Ok(number) => Ok(number),
+        Err(_) => Err(RehearsalFault::Line),
+    }
+}
+
+/// A port, from 0 on.
 pub fn port_of(word: &str) -> Result<u16, RehearsalFault> {
     match word.parse::<u16>() {
         Ok(port) => Ok(port),
@@ -83,12 +74,17 @@ pub fn id_of(word: &str) -> Result<ReplId, RehearsalFault> {
 
 /// A moment in milliseconds, and a random word.
 pub fn given_of(now: &str, word: &str) -> Result<Given, RehearsalFault> {
-    let word = count_of(word)?;
-    let Ok(now) = now.parse::<i64>() else {
-        return Err(RehearsalFault::Line);
-    };
-    match Given::new(now, word) {
+    match Given::new(number_of(now)?, count_of(word)?) {
         Some(given) => Ok(given),
         None => Err(RehearsalFault::Line),
+    }
+}
+
+/// Whether the word says that a node starts as a replica.
+pub fn is_replica(word: &str) -> Result<bool, RehearsalFault> {
+    match word {
+        "master" => Ok(false),
+        "replica" => Ok(true),
+        _ => Err(RehearsalFault::Line),
     }
 }
