@@ -1,9 +1,10 @@
 -- What steps at the link to a node's master do to its file.
-use Rattle.std.proofs.Common.{◌≡◌, inl, ℕ, List, [], ◌∷◌, ◌++◌, Bool, true, false, None, Some, Ok, Err, Result, rules, refl, sym, ap, subst, ◌∙◌, append-nil, arith}
+use Rattle.std.proofs.Common.{◌≡◌, inl, ℕ, List, [], ◌∷◌, ◌++◌, true, false, None, Some, Ok, Err, Result, refl, sym, ap, subst, ◌∙◌, append-nil, arith}
 use Rattle.std.specs.Prelude.{bytes_eq, if◌then◌else◌}
 use Rattle.std.specs.Option.{option_and_then}
 use Rattle.std.proofs.lemmas.List.Elements.{All-nil, All-cons}
-use Rattle.std.proofs.lemmas.Slice.Eq.{bytes_eq-Decides}
+use Rattle.std.proofs.lemmas.Bool.{false_from_ne_true}
+use Rattle.mr_bytes.proofs.Numbers.{same_bytes, equal_bytes}
 use Rattle.mr_links.specs.declared.link_id.LinkId.{LinkId}
 use Rattle.mr_effect.specs.declared.effect.Effect.{Effect}
 use Rattle.mr_effect.specs.declared.effect.Effect.TheVariants as effect
@@ -33,23 +34,13 @@ use Rattle.law_files.proofs.Beats.{beat_group_is}
 use Rattle.law_files.proofs.Filing.{kept_does}
 
 -- ---- what is filed of a group's text
-same_bytes : (xs ys : List ℕ) → bytes_eq xs ys ≡ true → xs ≡ ys
-same_bytes xs ys h = search (rules, bytes_eq-Decides)
-
-bytes_itself : (xs : List ℕ) → bytes_eq xs xs ≡ true
-bytes_itself xs = search (rules, bytes_eq-Decides)
-
 good_beat : IsGoodGroup (effect.Ping ∷ [])
 good_beat = one_good effect.Ping (record { spelled = refl; fits = refl; short = short_effect effect.Ping (omega arith) })
 
-not_true : (b : Bool) → (b ≡ true → ⊥) → b ≡ false
-not_true true h = absurd (h refl)
-not_true false h = refl
-
 filed_alone : (g : List Effect) → IsGoodGroup g → row.filed (group_text g) ≡ group_texts (groups_but_beats (g ∷ []))
 filed_alone g good = elim (is_beat_group g) as (λ b. is_beat_group g ≡ b → row.filed (group_text g) ≡ group_texts (if b then [] else g ∷ [])) [
-  | true ↦ λ is. ap (λ b. if b then [] else group_text g) (ap (λ x. bytes_eq (group_text x) beat) (beat_group_is g is) ∙ bytes_itself beat)
-  | false ↦ λ is. ap (λ b. if b then [] else group_text g) (not_true (bytes_eq (group_text g) beat) (λ same. other is (beat_alone same))) ∙ sym (append-nil (group_text g))
+  | true ↦ λ is. ap (λ b. if b then [] else group_text g) (ap (λ x. bytes_eq (group_text x) beat) (beat_group_is g is) ∙ equal_bytes beat)
+  | false ↦ λ is. ap (λ b. if b then [] else group_text g) (false_from_ne_true (bytes_eq (group_text g) beat) (λ same. other is (beat_alone same))) ∙ sym (append-nil (group_text g))
 ] refl
   where
     beat_alone : bytes_eq (group_text g) beat ≡ true → g ≡ effect.Ping ∷ []

@@ -27,10 +27,10 @@ use Rattle.law_files.proofs.Times.{ticks_file}
 use Rattle.law_files.proofs.Links.{opens_keep, dials_keep, feeds_keep, breaks_keep}
 
 -- ---- what becomes of one file
-same_grown : (s : Slot) → HasGrown s s
+pub same_grown : (s : Slot) → HasGrown s s
 same_grown s = record { bytes = []; file = sym (append-nil s.file); grows = kept_grows s.node.core s.node.core refl refl }
 
-grown_on : (r s t : Slot) → HasGrown r s → HasGrown s t → HasGrown r t
+pub grown_on : (r s t : Slot) → HasGrown r s → HasGrown s t → HasGrown r t
 grown_on r s t g h = record {
   bytes = g.bytes ++ h.bytes;
   file = h.file ∙ (ap (λ (z : List ℕ). z ++ h.bytes) g.file ∙ append_assoc r.file g.bytes h.bytes);

@@ -1,27 +1,17 @@
 -- Effects that can be applied and may stand beside one another are one group, with a text of its own.
-use Rattle.std.proofs.Common.{◌≡◌, List, [], ◌∷◌, Bool, true, false, ◌&&◌, cond, IsTrue, Option, Some, None, refl, ap, All, append-nil}
+use Rattle.std.proofs.Common.{◌≡◌, List, [], ◌∷◌, true, Some, refl, ap, All, append-nil}
 use Rattle.std.specs.Option.{option_and_then}
 use Rattle.std.specs.List.{list_all}
 use Rattle.std.proofs.lemmas.List.Elements.{All-nil, All-cons, All-head, All-tail}
-use Rattle.mr_effect.specs.Effects.{has_spelling, words_fit}
 use Rattle.mr_effect.specs.Spelling.{IsShort}
 use Rattle.mr_effect.specs.declared.effect.Effect.{Effect}
 use Rattle.mr_keyspace.specs.Dataset.{Dataset}
-use Rattle.mr_keyspace.specs.Changes.{change}
 use Rattle.mr_data.specs.Meaning.{apply, apply_all}
 use Rattle.mr_groups.specs.Effects.{IsGoodEffect}
 use Rattle.mr_groups.specs.Groups.{IsGoodGroup, IsGroup, as_group, can_join, grown_text, group_texts}
 use Rattle.mr_groups.specs.Folding.{apply_groups}
 use Rattle.mr_groups.proofs.Runs.{first_done}
-
-if_some : {A : Type 0} (b c : Bool) (o : Option A) (n : A) → cond (b && c) o None ≡ Some n → IsTrue b × IsTrue c
-if_some true true o n h = (refl, refl)
-if_some true false o n h = absurd (cc)
-if_some false c o n h = absurd (cc)
-
-applied_fits : (e : Effect) (m n : Dataset) → apply e m ≡ Some n → IsTrue (has_spelling e) × IsTrue (words_fit e)
-unfolding apply
-applied_fits e m n h = if_some (has_spelling e) (words_fit e) (change e m) n h
+use Rattle.mr_groups.proofs.Commands.{applied_fits}
 
 -- effects that lead on are good
 pub good_effects : (es : List Effect) (m n : Dataset) → apply_all es m ≡ Some n → All IsShort es → All IsGoodEffect es

@@ -18,7 +18,7 @@ use Rattle.mr_bytes.specs.declared.ends.Side.{Side}
 use Rattle.mr_effect.specs.declared.effect.Effect.{Effect}
 use Rattle.mr_effect.specs.declared.effect.Effect.TheVariants as effect
 use Rattle.mr_keyspace.specs.Dataset.{Dataset}
-use Rattle.mr_keyspace.specs.Steps.{Kind, held, texts as strings, hashes, lists, sets, sorted_sets}
+use Rattle.mr_keyspace.specs.Steps.{Kind, held, strings, hashes, lists, sets, sorted_sets}
 use Rattle.mr_keyspace.specs.Collections.{end_item, place_beside}
 use Rattle.mr_keyspace.specs.Cuts.{cut}
 use Rattle.mr_keyspace.specs.declared.value.Entry.{Entry}

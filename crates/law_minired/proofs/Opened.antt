@@ -1,6 +1,7 @@
 -- What a transaction is, by the commands that begin it, go on in it and end it.
 use Rattle.std.proofs.Common.{◌≡◌, ◌≤◌, ◌⊎◌, ℕ, inl, inr, List, [], ◌∷◌, Bool, true, false, not, Option, Some, None, Result, Ok, Err, length, refl, sym, ap, ◌∙◌, subst, arith}
 use Rattle.std.specs.Prelude.{◌&&◌, if◌then◌else◌}
+use Rattle.std.proofs.lemmas.Option.{same_Some}
 use Rattle.mr_map.specs.Bytes.{Bytes}
 use Rattle.mr_resp.specs.Request.{IsRequest}
 use Rattle.mr_resp.specs.Usual.{usual}
@@ -36,9 +37,6 @@ use Rattle.law_minired.proofs.Planned.{sound_group}
 -- what a request's words ask is asked by its text
 asks_as : (wish : NodeAsk) (text : List ℕ) (words : List Bytes) → IsRequest usual text words → AsksNode wish text → asked words ≡ Ok (ask.Node wish)
 asks_as wish text words request a = ap asked (one_words usual text words a.words request a.request) ∙ a.asks
-
-some_is : (s t : Transaction) → Some s ≡ Some t → s ≡ t
-some_is s t e = cc
 
 none_some : {P : Type 0} (t : Transaction) → None ≡ Some t → P
 none_some t e = absurd (cc)
@@ -100,9 +98,9 @@ pub others_go_on : OthersGoOn
 others_go_on master t s text l = go (coming (not master) l.words) refl l.to
   where
     go : (c : Coming) → coming (not master) l.words ≡ c → LeadsTo c (Some t) text (Some s) → GoesOn t text s
-    go waits e p = let is = some_is s _ p in GoesOn.waits (ap (λ (z : Transaction). z.queued) is) (ap (λ (z : Transaction). z.marked) is)
-    go (marks reply) e p = let is = some_is s _ p in GoesOn.marks (ap (λ (z : Transaction). z.queued) is) (ap (λ (z : Transaction). z.marked) is)
-    go nests e p = GoesOn.nests (record { words = l.words; request = l.request; asks = come_by (not master) l.words nests e }) (some_is s t p)
+    go waits e p = let is = same_Some s _ p in GoesOn.waits (ap (λ (z : Transaction). z.queued) is) (ap (λ (z : Transaction). z.marked) is)
+    go (marks reply) e p = let is = same_Some s _ p in GoesOn.marks (ap (λ (z : Transaction). z.queued) is) (ap (λ (z : Transaction). z.marked) is)
+    go nests e p = GoesOn.nests (record { words = l.words; request = l.request; asks = come_by (not master) l.words nests e }) (same_Some s t p)
     go drops e p = none_some s (sym p)
     go ends e p = none_some s (sym p)
     go quits e p = none_some s (sym p)

@@ -13,8 +13,8 @@ use Rattle.mr_peer_lines.specs.declared.psync.PsyncReply.TheVariants as reply
 use Rattle.mr_peer_lines.proofs.Apart.{apart, one_line}
 use Rattle.law_protocol.specs.Language.{Line}
 use Rattle.law_protocol.specs.Language.Line.{FullResync, Continue, Plain, Refusal}
+use Rattle.law_protocol.proofs.Histories.{same_length}
 use Rattle.law_minired.specs.Lines.{Means, Says}
-use Rattle.law_minired.proofs.Lists.{same_length}
 use Rattle.law_minired.proofs.Ids.{one_id, forty}
 
 first : List ℕ → ℕ

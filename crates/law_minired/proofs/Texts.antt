@@ -1,10 +1,11 @@
 -- No group's text begins another's, and no snapshot another.
-use Rattle.std.proofs.Common.{ℕ, List, [], ◌∷◌, ◌++◌, ◌≡◌, ◌≢◌, ◌<◌, ◌^◌, length, refl, ap, sym, ◌∙◌, subst, arith, append_assoc, All}
+use Rattle.std.proofs.Common.{ℕ, List, [], ◌∷◌, ◌++◌, ◌≡◌, ◌≢◌, length, refl, ap, sym, ◌∙◌, subst, append_assoc, All}
 use Rattle.std.proofs.lemmas.List.{append_cancel_left}
 use Rattle.std.proofs.lemmas.List.Elements.{All-head, All-tail}
 use Rattle.std.specs.FinMap.{empty}
-use Rattle.mr_resp.specs.Usual.{commands-words}
-use Rattle.mr_effect.specs.Spelling.{words, text, texts, IsShort}
+use Rattle.std.proofs.lemmas.Option.{same_Some}
+use Rattle.law_protocol.proofs.Histories.{same_length}
+use Rattle.mr_effect.specs.Spelling.{text, texts}
 use Rattle.mr_effect.specs.declared.effect.Effect.{Effect}
 use Rattle.mr_effect.proofs.Texts.{one_text}
 use Rattle.mr_keyspace.specs.Dataset.{Dataset}
@@ -15,8 +16,8 @@ use Rattle.mr_groups.proofs.Apart.{one_group}
 use Rattle.mr_groups.proofs.Going.{made_once}
 use Rattle.mr_peer_lines.specs.Lines.{size}
 use Rattle.mr_groups.specs.Effects.{IsGoodEffect, Makes}
+use Rattle.mr_groups.proofs.Leading.{few}
 use Rattle.law_minired.specs.Snapshots.{IsSnapshot}
-use Rattle.law_minired.proofs.Lists.{some_is, same_length}
 use Rattle.law_minired.proofs.Said.{same_said, line_some}
 
 -- ---- groups
@@ -34,9 +35,6 @@ pub made_by_groups_is_one : (bytes : List ℕ) (m n : Dataset) → MakesByGroups
 made_by_groups_is_one = made_once
 
 -- ---- the effects of a snapshot
-few : (e : Effect) → IsShort e → length (words e) < 2 ^ 64
-few e s = omega (arith, s, commands-words)
-
 both_are : (e f : Effect) (x y : List ℕ) → IsGoodEffect e → IsGoodEffect f → text e ++ x ≡ text f ++ y → (e ≡ f) × (x ≡ y)
 both_are e f x y g h q = one_text e f x y g.spelled h.spelled g.fits h.fits (few e g.short) (few f h.short) q
 
@@ -55,7 +53,7 @@ same_effects (e ∷ es) (f ∷ fs) g h q =
 made_is_one : (bytes : List ℕ) (m n : Dataset) → Makes bytes m → Makes bytes n → m ≡ n
 made_is_one bytes m n p q =
     let s = same_effects p.effects q.effects p.good q.good (sym p.are_texts ∙ q.are_texts) in
-    some_is m n (sym p.applied ∙ (ap (λ z. apply_all z empty) s ∙ q.applied))
+    same_Some m n (sym p.applied ∙ (ap (λ z. apply_all z empty) s ∙ q.applied))
 
 one_size : (n k : ℕ) → size n ≡ size k → n ≡ k
 one_size n k e = cc

@@ -1,6 +1,7 @@
 -- What two fronts, two books and an answer to PSYNC have to do with one another.
 use Rattle.std.proofs.Common.{ℕ, List, [], ◌++◌, ◌≡◌, ◌+◌, ◌-◌, ◌≤◌, ◌⊎◌, Some, true, length, drop, sym, ◌∙◌, ap, subst, inl, inr, arith, append_assoc, length-append}
 use Rattle.std.proofs.Math.Seq.{drop-append_seam, drop-append-add}
+pub use Rattle.std.proofs.lemmas.Option.{same_Some as some_is}
 use Rattle.law_protocol.specs.Language.{Language, Laws}
 use Rattle.law_protocol.specs.History.{Book, History, IsAt, Front, Agree, Grows, texts, fold}
 use Rattle.law_protocol.specs.Node.{Node, Continues, tail}
@@ -10,9 +11,6 @@ use Rattle.law_protocol.proofs.Histories.{append_nil, texts_append, shorter, sam
 -- each id keeps its history
 abbrev pub Keeps : (L : Language) → Book L → Book L → Type 0
 Keeps L old new = (i : L.Id) (h : History L) → old i ≡ Some h → new i ≡ Some h
-
-pub some_is : {A : Type 0} (x y : A) → Some x ≡ Some y → x ≡ y
-some_is x y e = cc
 
 pub history_is : (L : Language) (b : Book L) (i : L.Id) (h g : History L) → b i ≡ Some h → b i ≡ Some g → (h.start ≡ g.start) × (h.effects ≡ g.effects)
 history_is L b i h g p q =

@@ -1,18 +1,10 @@
 -- Histories: fronts, folds, agreement, growth.
-use Rattle.std.proofs.Common.{List, [], ◌∷◌, ◌++◌, ◌≡◌, ◌≢◌, ◌+◌, ◌≤◌, ◌<◌, Option, None, Some, length, refl, ap, arith, length-append, All}
+use Rattle.std.proofs.Common.{ℕ, List, [], ◌∷◌, ◌++◌, ◌≡◌, ◌≢◌, ◌+◌, ◌≤◌, ◌<◌, Option, None, Some, length, refl, ap, arith, length-append, All}
 use Rattle.std.proofs.lemmas.Grind.{flat_map-append}
-use Rattle.std.proofs.lemmas.List.Elements.{All-nil, All-cons, All-head, All-tail}
+use Rattle.std.proofs.lemmas.List.Elements.{All-tail}
+pub use Rattle.std.proofs.lemmas.List.{append-nil as append_nil}
 use Rattle.law_protocol.specs.Language.{Language, Laws}
 use Rattle.law_protocol.specs.History.{texts, fold, then_fold}
-
-pub append_nil : {A : Type 0} (xs : List A) → xs ++ [] ≡ xs
-append_nil [] = refl
-append_nil (x ∷ xs) = ap (λ ys. x ∷ ys) (append_nil xs)
-
--- what holds of each of a list holds of each of its parts
-pub all_front : {X : Type 0} (P : X → Type 0) (xs ys : List X) → All P (xs ++ ys) → All P xs
-all_front P [] ys h = All-nil P
-all_front P (x ∷ xs) ys h = All-cons P x xs (All-head P x (xs ++ ys) h) (all_front P xs ys (All-tail P x (xs ++ ys) h))
 
 pub all_back : {X : Type 0} (P : X → Type 0) (xs ys : List X) → All P (xs ++ ys) → All P ys
 all_back P [] ys h = h
@@ -72,3 +64,10 @@ same_front L laws (x ∷ earlier) later (y ∷ earlier') later' e h =
     let r = ap (λ z. length (L.text z)) same in
     let s = same_front L laws earlier later earlier' later' rest (omega arith) in
     (cc, s.1)
+
+pub same_length : (h k x y : List ℕ) → length h ≡ length k → h ++ x ≡ k ++ y → h ≡ k
+same_length [] [] x y n e = refl
+same_length [] (b ∷ k) x y n e = absurd (omega (arith, n))
+same_length (a ∷ h) [] x y n e = absurd (omega (arith, n))
+same_length (a ∷ h) (b ∷ k) x y n e =
+    let f : a ≡ b = cc in let g : h ++ x ≡ k ++ y = cc in let t = same_length h k x y (omega (arith, n)) g in cc

@@ -11,7 +11,7 @@ use Rattle.law_protocol.specs.Node.Phase.{Asked}
 use Rattle.law_protocol.specs.World.{Link, World, IsUntouched, accepted, dropped, shut}
 use Rattle.law_protocol.specs.Invariant.{NodeIsSound, AtTip, Flow, Talk, Invariant}
 use Rattle.law_protocol.specs.Invariant.Talk.{greeting, greeted, asking, asking_for, refused, answered_full, answered_cont, loading, streaming}
-use Rattle.law_protocol.proofs.Moves.{Serves, WaitsUntouched, NoneComes, used}
+use Rattle.law_protocol.proofs.Moves.{HasServingEnd, WaitsUntouched, NoneComes, used}
 use Rattle.law_protocol.proofs.Histories.{append_nil}
 use Rattle.law_protocol.proofs.Fronts.{Keeps, some_is, at_grows, agree_grows, front_keeps, keeps_grows, Continuing, continues}
 use Rattle.law_protocol.proofs.Keeping.{same_keeps, same_good, node_keeps, flow_keeps, talk_keeps, link_change, true_false, none_some, origin, dropped_untouched, shut_untouched, asked_untouched}
@@ -127,7 +127,7 @@ stage_left L laws m t rest a xs h e n = absurd (nothing t rest (laws.asks_some m
     nothing [] rest f g = f refl
     nothing (x ∷ t) rest f g = cc
 
-pub greet_keeps : {L : Language} (laws : Laws L) (w v : World L) (l : ℕ) (k : Link) (s : Node L) (t rest r : List ℕ) → Invariant w → Serves w s l k → k.streams ≡ false → L.asks k.transaction t Handshake → L.says r Plain
+pub greet_keeps : {L : Language} (laws : Laws L) (w v : World L) (l : ℕ) (k : Link) (s : Node L) (t rest r : List ℕ) → Invariant w → HasServingEnd w s l k → k.streams ≡ false → L.asks k.transaction t Handshake → L.says r Plain
     → k.ask.left ≡ t ++ rest → Same w.node v.node → SetAt w.link v.link l (used k rest r) → Same w.book v.book → Invariant v
 greet_keeps {L} laws w v l k s t rest r inv se st ask say el sn sl sb =
     link_change w v l (used k rest r) inv sn sl sb (λ q. none_some k.to se.n q se.to) (λ m c p x ec uc fc ex fx y.
@@ -146,7 +146,7 @@ greet_keeps {L} laws w v l k s t rest r inv se st ask say el sn sl sb =
     go c p (loading i o m bytes e y at f) = true_false k.streams f.streams st
     go c p (streaming bytes e y f) = true_false k.streams f.streams st
 
-pub refuse_keeps : {L : Language} (laws : Laws L) (w v : World L) (l : ℕ) (k : Link) (s : Node L) (q : Option (L.Id × ℕ)) (t rest r : List ℕ) → Invariant w → Serves w s l k → k.streams ≡ false → L.asks k.transaction t (Psync q) → L.says r Refusal
+pub refuse_keeps : {L : Language} (laws : Laws L) (w v : World L) (l : ℕ) (k : Link) (s : Node L) (q : Option (L.Id × ℕ)) (t rest r : List ℕ) → Invariant w → HasServingEnd w s l k → k.streams ≡ false → L.asks k.transaction t (Psync q) → L.says r Refusal
     → k.ask.left ≡ t ++ rest → Same w.node v.node → SetAt w.link v.link l (used k rest r) → Same w.book v.book → Invariant v
 refuse_keeps {L} laws w v l k s q t rest r inv se st ask say el sn sl sb =
     link_change w v l (used k rest r) inv sn sl sb (λ q. none_some k.to se.n q se.to) (λ m c p x ec uc fc ex fx y.
@@ -180,10 +180,10 @@ psync_is : {I : Type 0} (a b : I × ℕ) → Psync (Some a) ≡ Psync (Some b) �
 unfolding of_psync
 psync_is a b e = some_is a b (ap of_psync e)
 
-serves_is : {L : Language} (w v : World L) (l : ℕ) (k : Link) (s x : Node L) (se : Serves w s l k) (n : ℕ) → k.to ≡ Some n → Same w.node v.node → v.node n ≡ Some x → s ≡ x
+serves_is : {L : Language} (w v : World L) (l : ℕ) (k : Link) (s x : Node L) (se : HasServingEnd w s l k) (n : ℕ) → k.to ≡ Some n → Same w.node v.node → v.node n ≡ Some x → s ≡ x
 serves_is w v l k s x se n to sn e = let i = some_is se.n n (sym se.to ∙ to) in some_is s x (sym se.node ∙ (ap (λ z. w.node z) i ∙ (sym (sn n) ∙ e)))
 
-pub answer_full_keeps : {L : Language} (laws : Laws L) (w v : World L) (l : ℕ) (k : Link) (s : Node L) (q : Option (L.Id × ℕ)) (t rest x y : List ℕ) → L.loads x s.held → L.says y (FullResync s.id s.offset) → Invariant w → Serves w s l k → k.streams ≡ false → s.master ≡ true → L.asks k.transaction t (Psync q)
+pub answer_full_keeps : {L : Language} (laws : Laws L) (w v : World L) (l : ℕ) (k : Link) (s : Node L) (q : Option (L.Id × ℕ)) (t rest x y : List ℕ) → L.loads x s.held → L.says y (FullResync s.id s.offset) → Invariant w → HasServingEnd w s l k → k.streams ≡ false → s.master ≡ true → L.asks k.transaction t (Psync q)
     → k.ask.left ≡ t ++ rest → Same w.node v.node
     → SetAt w.link v.link l (record (used k rest (y ++ x)) { streams = true }) → Same w.book v.book → Invariant v
 answer_full_keeps {L} laws w v l k s q t rest snap line ld ls inv se st ms ask el sn sl sb =
@@ -223,7 +223,7 @@ answer_full_keeps {L} laws w v l k s q t rest snap line ld ls inv se st ms ask e
     go c p (loading i o m bytes e y at f) = true_false k.streams f.streams st
     go c p (streaming bytes e y f) = true_false k.streams f.streams st
 
-pub answer_cont_keeps : {L : Language} (laws : Laws L) (w v : World L) (l : ℕ) (i : L.Id) (o : ℕ) (k : Link) (s : Node L) (t rest y : List ℕ) → L.says y (Continue s.id) → Invariant w → Serves w s l k → k.streams ≡ false → s.master ≡ true → L.asks k.transaction t (Psync (Some (i, o)))
+pub answer_cont_keeps : {L : Language} (laws : Laws L) (w v : World L) (l : ℕ) (i : L.Id) (o : ℕ) (k : Link) (s : Node L) (t rest y : List ℕ) → L.says y (Continue s.id) → Invariant w → HasServingEnd w s l k → k.streams ≡ false → s.master ≡ true → L.asks k.transaction t (Psync (Some (i, o)))
     → k.ask.left ≡ t ++ rest → Continues s i o → Same w.node v.node
     → SetAt w.link v.link l (record (used k rest (y ++ tail s o)) { streams = true }) → Same w.book v.book → Invariant v
 answer_cont_keeps {L} laws w v l i o k s t rest line ls inv se st ms ask el co sn sl sb =

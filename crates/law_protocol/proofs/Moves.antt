@@ -27,7 +27,7 @@ pub record Follows {L : Language} (w : World L) (n : ℕ) (a : Node L) (l : ℕ)
   pub link : w.link l ≡ Some k
 
 -- a node's end of an open link that it serves
-pub record Serves {L : Language} (w : World L) (s : Node L) (l : ℕ) (k : Link) : Type 0 where
+pub record HasServingEnd {L : Language} (w : World L) (s : Node L) (l : ℕ) (k : Link) : Type 0 where
   pub link : w.link l ≡ Some k
   pub n : ℕ
   pub to : k.to ≡ Some n
@@ -86,17 +86,17 @@ pub data Move {L : Language} (w v : World L) : Type 0 where
   -- a node accepts a link that waits
   accept : (l m : ℕ) (k : Link) → w.link l ≡ Some k → k.to ≡ None → Same w.node v.node → SetAt w.link v.link l (accepted m k) → Same w.book v.book → Move w v
   -- the server reads a line of the handshake
-  greet : (l : ℕ) (k : Link) (s : Node L) (t rest r : List ℕ) → Serves w s l k → k.streams ≡ false → L.asks k.transaction t Handshake → L.says r Plain
+  greet : (l : ℕ) (k : Link) (s : Node L) (t rest r : List ℕ) → HasServingEnd w s l k → k.streams ≡ false → L.asks k.transaction t Handshake → L.says r Plain
       → k.ask.left ≡ t ++ rest → Same w.node v.node → SetAt w.link v.link l (used k rest r) → Same w.book v.book → Move w v
   -- a replica is asked for its stream
-  refuse : (l : ℕ) (k : Link) (s : Node L) (q : Option (L.Id × ℕ)) (t rest r : List ℕ) → Serves w s l k → k.streams ≡ false → L.asks k.transaction t (Psync q) → L.says r Refusal
+  refuse : (l : ℕ) (k : Link) (s : Node L) (q : Option (L.Id × ℕ)) (t rest r : List ℕ) → HasServingEnd w s l k → k.streams ≡ false → L.asks k.transaction t (Psync q) → L.says r Refusal
       → k.ask.left ≡ t ++ rest → Same w.node v.node → SetAt w.link v.link l (used k rest r) → Same w.book v.book → Move w v
   -- a master answers by a snapshot
-  answer_full : (l : ℕ) (k : Link) (s : Node L) (q : Option (L.Id × ℕ)) (t rest x y : List ℕ) → L.loads x s.held → L.says y (FullResync s.id s.offset) → Serves w s l k → k.streams ≡ false → s.master ≡ true → L.asks k.transaction t (Psync q)
+  answer_full : (l : ℕ) (k : Link) (s : Node L) (q : Option (L.Id × ℕ)) (t rest x y : List ℕ) → L.loads x s.held → L.says y (FullResync s.id s.offset) → HasServingEnd w s l k → k.streams ≡ false → s.master ≡ true → L.asks k.transaction t (Psync q)
       → k.ask.left ≡ t ++ rest → Same w.node v.node
       → SetAt w.link v.link l (record (used k rest (y ++ x)) { streams = true }) → Same w.book v.book → Move w v
   -- a master continues
-  answer_cont : (l : ℕ) (i : L.Id) (o : ℕ) (k : Link) (s : Node L) (t rest y : List ℕ) → L.says y (Continue s.id) → Serves w s l k → k.streams ≡ false → s.master ≡ true → L.asks k.transaction t (Psync (Some (i, o)))
+  answer_cont : (l : ℕ) (i : L.Id) (o : ℕ) (k : Link) (s : Node L) (t rest y : List ℕ) → L.says y (Continue s.id) → HasServingEnd w s l k → k.streams ≡ false → s.master ≡ true → L.asks k.transaction t (Psync (Some (i, o)))
       → k.ask.left ≡ t ++ rest → Continues s i o → Same w.node v.node
       → SetAt w.link v.link l (record (used k rest (y ++ tail s o)) { streams = true }) → Same w.book v.book → Move w v
   -- the server reads on a link that it streams to, or the follower of such a link says something

@@ -1,13 +1,14 @@
 -- The moves that change a node and no link keep the invariant.
-use Rattle.std.proofs.Common.{ℕ, List, [], ◌++◌, ◌≡◌, ◌≢◌, ◌+◌, ◌-◌, None, Some, Bool, true, false, refl, sym, ◌∙◌, ap, subst, arith, All}
-use Rattle.std.proofs.lemmas.List.Elements.{All-nil}
+use Rattle.std.proofs.Common.{ℕ, List, [], ◌++◌, ◌≡◌, ◌≢◌, ◌+◌, ◌-◌, None, Some, Bool, true, false, refl, sym, ◌∙◌, ap, subst, arith, All, length}
+use Rattle.std.proofs.lemmas.List.Elements.{All-nil, All-take}
+use Rattle.std.proofs.lemmas.List.{take_at}
 use Rattle.law_protocol.specs.Language.{Language, Laws}
 use Rattle.law_protocol.specs.Changes.{SetAt, Same}
 use Rattle.law_protocol.specs.History.{Book, History, Front, Agree, texts, fold}
 use Rattle.law_protocol.specs.Node.{Node}
 use Rattle.law_protocol.specs.World.{Link, World}
 use Rattle.law_protocol.specs.Invariant.{IsGoodBook, NodeIsSound, Invariant}
-use Rattle.law_protocol.proofs.Histories.{append_nil, all_front}
+use Rattle.law_protocol.proofs.Histories.{append_nil}
 use Rattle.law_protocol.proofs.Fronts.{Keeps, some_is, front_same, front_keeps}
 use Rattle.law_protocol.proofs.Keeping.{same_keeps, same_good, node_keeps, id_or, node_change, true_false, none_some}
 
@@ -90,7 +91,7 @@ pub promote_keeps : {L : Language} (laws : Laws L) (w v : World L) (n : ℕ) (i 
     → Same w.link v.link → Front L w.book a.id a.offset start earlier later → SetAt w.book v.book i (record { start = start; effects = earlier }) → Invariant v
 promote_keeps {L} laws w v n i a start earlier later inv e u em ef fresh sn sl fr sb =
     node_change w v n b inv sn sl keeps
-    (set_good L laws w.book v.book i _ (all_front L.IsGood earlier later (inv.good a.id _ fr.found)) sb inv.good)
+    (set_good L laws w.book v.book i _ (subst (λ z. All L.IsGood z) (take_at earlier later (length earlier) refl) (All-take L.IsGood (length earlier) (earlier ++ later) (inv.good a.id _ fr.found))) sb inv.good)
     (λ u. ok)
     (λ u x m c q ec uc xc. fresh_id w i m c inv fresh ec uc)
     (λ l k j post x y s o u t. true_false a.master (t n a y e u o).0 em)

@@ -8,7 +8,7 @@ use Rattle.law_protocol.specs.Node.{Node, tail}
 use Rattle.law_protocol.specs.World.{Link, World, hears, shut, told, told_if}
 use Rattle.law_protocol.specs.ServerRows.{answered, joined, Skips, Runs, Promotes, Demotes, Turns, ServerRow, concluded}
 use Rattle.law_protocol.specs.Invariant.{Invariant}
-use Rattle.law_protocol.proofs.Moves.{Move, Serves, WaitsUntouched, used, Reaches}
+use Rattle.law_protocol.proofs.Moves.{Move, HasServingEnd, WaitsUntouched, used, Reaches}
 use Rattle.law_protocol.proofs.Moves.Move.{still, leave, close, loose, extend, promote, demote, greet, refuse, answer_full, answer_cont, noted}
 use Rattle.law_protocol.proofs.Moves.Reaches.{by_moves}
 use Rattle.law_protocol.proofs.Theorem.{move_keeps}
@@ -147,7 +147,7 @@ pub server_reaches : {L : Language} (laws : Laws L) (w v : World L) (n l : ℕ) 
     → ServerRow w v n l k s given fresh → Reaches w v
 server_reaches {L} laws w v n l k s given fresh inv ek to en eo u row = go row
   where
-    se : Serves w s l k
+    se : HasServingEnd w s l k
     se = record { link = ek; n = n; to = to; node = en; up = u; serving = eo }
 
     served : {P : Type 0} → k.to ≡ None → P

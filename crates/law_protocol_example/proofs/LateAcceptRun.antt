@@ -13,12 +13,14 @@ use Rattle.law_protocol.specs.Rows.{Opens, Calls, Accepts, Row}
 use Rattle.law_protocol.specs.Runs.{nowhere, Moments}
 use Rattle.law_protocol.specs.Event.{Event}
 use Rattle.law_protocol.specs.Event.Side.{Server, Dialler}
+use Rattle.law_protocol.proofs.Fronts.{some_is}
+use Rattle.law_protocol.proofs.Keeping.{none_some}
 use Rattle.law_protocol_example.specs.Looks.{look}
 use Rattle.law_protocol_example.specs.Tiny.{tiny, Said}
 use Rattle.law_protocol_example.specs.Transfer.{before, history}
 use Rattle.law_protocol_example.specs.LateAccept.{later, replica, greeting, waits, asks, hears, client_0, client_1, client_2, client_3, events, moments, IsAnsweredLate, moment_1, moment_2, moment_3, moment_4, moment_5, moment_6, moment_7, moment_8, moment_9, moment_10, moment_11, moment_12, moment_13, moment_14, moment_15, moment_16, moment_17, moment_18, moment_19, moment_20}
 use Rattle.law_protocol_example.proofs.Looking.{added, changed}
-use Rattle.law_protocol_example.proofs.StoryRun.{some_is, none_some, plain_is_no_refusal}
+use Rattle.law_protocol_example.proofs.StoryRun.{plain_is_no_refusal}
 
 none_comes : (j : ℕ) → j ≢ 1 → look (waits ∷ client_2 ∷ []) j ≡ None → look (waits ∷ client_3 ∷ []) j ≡ None
 none_comes zero h e = absurd (none_some None waits refl (sym e))

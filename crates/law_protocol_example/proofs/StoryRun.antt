@@ -16,14 +16,10 @@ use Rattle.law_protocol.specs.Rows.{Opens, Dials, Row}
 use Rattle.law_protocol.specs.Runs.{nowhere, Moments}
 use Rattle.law_protocol.specs.Event.{Event}
 use Rattle.law_protocol.specs.Event.Side.{Server, Dialler}
+use Rattle.law_protocol.proofs.Fronts.{some_is}
+use Rattle.law_protocol.proofs.Keeping.{none_some}
 use Rattle.law_protocol_example.specs.Tiny.{tiny, Said}
 use Rattle.law_protocol_example.specs.Story.{nodes, links, ids, events, moments, EndsLevel, node0_0, history0_0, node1_0, link0_0, node1_1, link1_0, link1_1, link1_2, link1_3, node1_2, node1_3, node1_4, link1_4, link1_5, link1_6, link1_7, node1_5, link1_8, node1_6, link1_9, link0_1, link0_2, link0_3, link1_10, node0_1, link1_11, node1_7, link2_0, link2_1, link2_2, node1_8, link2_3, history2_0, link2_4, link2_5, link2_6, node1_9, link0_4, link0_5, link0_6, link1_12, node0_2, node0_3, link3_0, link3_1, link3_2, link3_3, node0_4, node0_5, node0_6, link3_4, link3_5, link3_6, link3_7, node0_7, link3_8, link3_9, moment_1, moment_2, moment_3, moment_4, moment_5, moment_6, moment_7, moment_8, moment_9, moment_10, moment_11, moment_12, moment_13, moment_14, moment_15, moment_16, moment_17, moment_18, moment_19, moment_20, moment_21, moment_22, moment_23, moment_24, moment_25, moment_26, moment_27, moment_28, moment_29, moment_30, moment_31, moment_32, moment_33, moment_34, moment_35, moment_36, moment_37, moment_38, moment_39, moment_40, moment_41, moment_42, moment_43, moment_44, moment_45, moment_46, moment_47, moment_48, moment_49, moment_50, moment_51, moment_52, moment_53, moment_54}
-
-pub some_is : {A : Type 0} (x y : A) → Some x ≡ Some y → x ≡ y
-some_is x y e = cc
-
-pub none_some : {A P : Type 0} (o : Option A) (x : A) → o ≡ None → o ≡ Some x → P
-none_some o x p q = absurd (cc)
 
 pub plain_is_no_refusal : let plain : Line ℕ = Plain in let refusal : Line ℕ = Refusal in plain ≢ refusal
 plain_is_no_refusal e = cc

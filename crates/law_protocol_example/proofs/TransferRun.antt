@@ -9,11 +9,11 @@ use Rattle.law_protocol.specs.Rows.{Opens, Row}
 use Rattle.law_protocol.specs.Runs.{nowhere, Moments}
 use Rattle.law_protocol.specs.Event.{Event}
 use Rattle.law_protocol.specs.Event.Side.{Server}
+use Rattle.law_protocol.proofs.Keeping.{none_some}
 use Rattle.law_protocol_example.specs.Looks.{look}
 use Rattle.law_protocol_example.specs.Tiny.{tiny, Said}
 use Rattle.law_protocol_example.specs.Transfer.{before, after, history, command, events, moments, ActsAtItsEnd, link_0, link_1, link_2, link_3, link_4, link_5, link_6, link_7, link_8, link_9, link_10, moment_1, moment_2, moment_3, moment_4, moment_5, moment_6, moment_7, moment_8, moment_9, moment_10, moment_11, moment_12}
 use Rattle.law_protocol_example.proofs.Looking.{added, changed}
-use Rattle.law_protocol_example.proofs.StoryRun.{none_some}
 
 -- where there is one link no other is
 no_other_none : (k m : Link) (j : ℕ) → j ≢ 0 → look (k ∷ []) j ≡ None → look (m ∷ []) j ≡ None

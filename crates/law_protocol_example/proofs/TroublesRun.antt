@@ -13,10 +13,11 @@ use Rattle.law_protocol.specs.Rows.{Opens, Dials, Ticks, Row}
 use Rattle.law_protocol.specs.Runs.{nowhere, Moments}
 use Rattle.law_protocol.specs.Event.{Event}
 use Rattle.law_protocol.specs.Event.Side.{Server, Dialler}
+use Rattle.law_protocol.proofs.Keeping.{none_some}
 use Rattle.law_protocol_example.specs.Tiny.{tiny, Said}
 use Rattle.law_protocol_example.specs.Troubles.{events, moments, EndsAnew, nodes_0, links_0, book_0, node0_0, nodes_1, history0_0, book_1, node1_0, nodes_2, history1_0, book_2, node2_0, nodes_3, history2_0, book_3, link0_0, links_1, node1_1, nodes_4, link1_0, links_2, link1_1, links_3, link1_2, links_4, link1_3, links_5, node1_2, nodes_5, node1_3, nodes_6, node1_4, nodes_7, link1_4, links_6, link1_5, links_7, link1_6, links_8, link1_7, links_9, node1_5, nodes_8, link1_8, links_10, node1_6, nodes_9, link1_9, links_11, node0_1, nodes_10, link1_10, links_12, history0_1, book_4, link1_11, links_13, node1_7, nodes_11, link1_12, links_14, link1_13, links_15, link0_1, links_16, link0_2, links_17, link0_3, links_18, link0_4, links_19, link0_5, links_20, link0_6, links_21, link0_7, links_22, link2_0, links_23, link2_1, links_24, link2_2, links_25, link2_3, links_26, node2_1, nodes_12, link3_0, links_27, link3_1, links_28, link3_2, links_29, link3_3, links_30, node2_2, nodes_13, node2_3, nodes_14, node2_4, nodes_15, link3_4, links_31, link3_5, links_32, link3_6, links_33, link3_7, links_34, link4_0, links_35, link4_1, links_36, link4_2, links_37, node2_5, nodes_16, link4_3, links_38, link4_4, links_39, link4_5, links_40, node2_6, nodes_17, link4_6, links_41, history3_0, book_5, link5_0, links_42, link5_1, links_43, link5_2, links_44, link5_3, links_45, link5_4, links_46, link5_5, links_47, link5_6, links_48, link1_14, links_49, node1_8, nodes_18, link0_8, links_50, link6_0, links_51, link6_1, links_52, link6_2, links_53, node0_2, nodes_19, node2_7, nodes_20, node0_3, history4_0, moment_1, moment_2, moment_3, moment_4, moment_5, moment_6, moment_7, moment_8, moment_9, moment_10, moment_11, moment_12, moment_13, moment_14, moment_15, moment_16, moment_17, moment_18, moment_19, moment_20, moment_21, moment_22, moment_23, moment_24, moment_25, moment_26, moment_27, moment_28, moment_29, moment_30, moment_31, moment_32, moment_33, moment_34, moment_35, moment_36, moment_37, moment_38, moment_39, moment_40, moment_41, moment_42, moment_43, moment_44, moment_45, moment_46, moment_47, moment_48, moment_49, moment_50, moment_51, moment_52, moment_53, moment_54, moment_55, moment_56, moment_57, moment_58, moment_59, moment_60, moment_61, moment_62, moment_63, moment_64, moment_65, moment_66, moment_67, moment_68, moment_69, moment_70, moment_71, moment_72, moment_73, moment_74, moment_75, moment_76, moment_77, moment_78, moment_79, moment_80, moment_81}
 use Rattle.law_protocol_example.proofs.Looking.{added, changed, each_none, each_some}
-use Rattle.law_protocol_example.proofs.StoryRun.{none_some, plain_is_no_refusal, nothing_asked}
+use Rattle.law_protocol_example.proofs.StoryRun.{plain_is_no_refusal, nothing_asked}
 
 command_is_no_ack : let command : Request ℕ = Command in let ack : Request ℕ = Ack in command ≢ ack
 command_is_no_ack e = cc

@@ -1,18 +1,12 @@
 -- The tiny language keeps the laws.
-use Rattle.std.proofs.Common.{ℕ, zero, suc, List, [], ◌∷◌, ◌++◌, ◌≡◌, ◌≢◌, ◌<◌, Option, None, Some, refl, sym, ◌∙◌, ap, length, arith}
+use Rattle.std.proofs.Common.{ℕ, zero, suc, List, [], ◌∷◌, ◌++◌, ◌≡◌, ◌≢◌, ◌<◌, Option, None, Some, refl, sym, ◌∙◌, ap, arith}
 use Rattle.std.proofs.lemmas.Bool.Decides.{Decides-eqb}
 use Rattle.law_protocol.specs.Language.{Laws, Line, Request}
 use Rattle.law_protocol.specs.Language.Line.{FullResync, Continue, Plain, Refusal}
 use Rattle.law_protocol.specs.Language.Request.{Handshake, Psync, Ack, Command, ReplicaOfNoOne, ReplicaOf, Empty, Quit}
+use Rattle.law_protocol.proofs.Histories.{same_length}
 use Rattle.law_protocol_example.specs.Tiny.{tiny, BeginsWithZero, Said, line_text, wanted_text, request_text, said_text, meant, snapshot_text}
 use Rattle.law_protocol_example.specs.Tiny.Said.{Asks, Begin, End}
-
-same_length : (h k x y : List ℕ) → length h ≡ length k → h ++ x ≡ k ++ y → h ≡ k
-same_length [] [] x y n e = refl
-same_length [] (b ∷ k) x y n e = absurd (omega (arith, n))
-same_length (a ∷ h) [] x y n e = absurd (omega (arith, n))
-same_length (a ∷ h) (b ∷ k) x y n e =
-    let f : a ≡ b = cc in let g : h ++ x ≡ k ++ y = cc in let t = same_length h k x y (omega (arith, n)) g in cc
 
 line_cut : (a b : Line ℕ) (x y : List ℕ) → line_text a ++ x ≡ line_text b ++ y → a ≡ b
 line_cut (FullResync i o) (FullResync p q) x y e = let h : i ≡ p = cc in let k : o ≡ q = cc in cc

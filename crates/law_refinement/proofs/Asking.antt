@@ -6,7 +6,7 @@ use Rattle.std.specs.Fmt.{decimal}
 use Rattle.std.proofs.lemmas.Fmt.{decimal_injective}
 use Rattle.std.proofs.lemmas.List.Elements.{All-nil, All-cons, All-head, All-tail}
 use Rattle.std.proofs.lemmas.List.Sums.{AllPass-from_list_all}
-use Rattle.mr_repl.specs.ReplId.{IsId, digits_of, is_lower_digit}
+use Rattle.mr_repl.specs.ReplId.{is_lower_digit}
 use Rattle.mr_repl.proofs.IdTexts.{texts_are_forty}
 use Rattle.mr_resp.specs.Replies.{Tree, error, reply_text}
 use Rattle.mr_resp.specs.Command.{IsCommandText}
@@ -33,6 +33,7 @@ use Rattle.mr_peer_lines.specs.Lines.{status, refusal}
 use Rattle.mr_peer_lines.specs.Replies.{IsReplyText}
 use Rattle.mr_peer_lines.specs.declared.psync.PsyncReply.{PsyncReply}
 use Rattle.mr_peer_lines.specs.declared.psync.PsyncReply.TheVariants as reply
+use Rattle.mr_peer_lines.proofs.Answers.{IsIdOf}
 use Rattle.mr_node_output.specs.Address.{AddressState}
 use Rattle.mr_node_spec.specs.Sound.{ports}
 use Rattle.mr_node_spec.specs.Served.{not_chained}
@@ -178,9 +179,6 @@ all_or p (x ∷ xs) = go (all_or p xs) (p x) refl
 
 length_or : (a c : ℕ) → (a ≡ c) ⊎ (a ≢ c)
 length_or a c = grind arith
-
-abbrev IsIdOf : List ℕ → Type 0
-IsIdOf x = (id : List ℕ) × IsId id × (digits_of id ≡ x)
 
 id_or : (x : List ℕ) → IsIdOf x ⊎ (IsIdOf x → ⊥)
 id_or x = go (length_or (length x) 40) (all_or is_lower_digit x)

@@ -3,7 +3,7 @@ use Rattle.std.proofs.Common.{◌≡◌, ℕ, List, [], ◌∷◌, ◌++◌, Boo
 use Rattle.std.specs.Prelude.{slice_get, slice_set, bytes_eq}
 use Rattle.std.specs.Option.{option_map}
 use Rattle.std.specs.FinMap.{empty}
-use Rattle.std.proofs.lemmas.Option.{slice_get-map}
+use Rattle.std.proofs.lemmas.Option.{slice_get-map, none-some}
 use Rattle.std.proofs.lemmas.Slice.Eq.{bytes_eq-Decides}
 use Rattle.mr_keyspace.specs.Dataset.{Dataset}
 use Rattle.mr_groups.specs.Folding.{MakesByGroups}
@@ -112,19 +112,16 @@ restarts w book n s as_replica port backlog id found kept start m holds at role 
 pub kept_histories : EventsKeepHistories
 kept_histories w book e v holds x = row_keeps minired_laws (seen w book) e (seen v x.new_book) holds.invariant x.row
 
-none_there : {A : Type 0} (i : ℕ) (x : A) → ◌≡◌ {A = Option A} (slice_get [] i) (Some x) → ⊥
-none_there i x e = cc
-
 pub worlds_begin : WorldsBegin
 worlds_begin = record {
   world = record {
-    asks = λ l k e. absurd (none_there l k e);
-    tells = λ l k e. absurd (none_there l k e);
-    servers = λ l k e. absurd (none_there l k e);
-    untouched = λ l k e. absurd (none_there l k e);
-    names = λ i j k m e. absurd (none_there i k e);
-    nodes = λ n s e u. absurd (none_there n s e);
-    followers = λ n s name f e u q. absurd (none_there n s e);
+    asks = λ l k e. absurd (none-some k e);
+    tells = λ l k e. absurd (none-some k e);
+    servers = λ l k e. absurd (none-some k e);
+    untouched = λ l k e. absurd (none-some k e);
+    names = λ i j k m e. absurd (none-some k e);
+    nodes = λ n s e u. absurd (none-some s e);
+    followers = λ n s name f e u q. absurd (none-some s e);
   };
   kept = record { each = λ i. tt };
   invariant = nowhere_ok minired;

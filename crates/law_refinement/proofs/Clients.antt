@@ -3,6 +3,7 @@ use Rattle.std.proofs.Common.{◌≡◌, ◌≢◌, ◌+◌, ◌-◌, ◌<◌, �
 use Rattle.std.specs.Prelude.{is_some}
 use Rattle.std.proofs.lemmas.List.{append-nil}
 use Rattle.std.proofs.lemmas.List.Elements.{All-nil}
+use Rattle.std.proofs.lemmas.Option.{same_Some}
 use Rattle.mr_effect.specs.Spelling.{texts}
 use Rattle.mr_effect.specs.declared.effect.Effect.{Effect}
 use Rattle.mr_keyspace.specs.Dataset.{Dataset}
@@ -80,11 +81,8 @@ grown_none c m is e =
     ∙ (ap (λ z. record c { lineage = record c.lineage { stream = record { held = z; capacity = c.lineage.stream.capacity; offset = c.lineage.stream.offset + 0 } } }) (last_all c.lineage.stream.capacity c.lineage.stream.held is.within)
     ∙ ap (λ z. record c { lineage = record c.lineage { stream = record { held = c.lineage.stream.held; capacity = c.lineage.stream.capacity; offset = z } } }) place)
 
-some_is : (m n : Dataset) → Some m ≡ Some n → n ≡ m
-some_is m n e = cc
-
 pub left_none : (effects : List Effect) (m n : Dataset) → effects ≡ [] → apply_all effects m ≡ Some n → n ≡ m
-left_none effects m n none leads = some_is m n (ap (λ (es : List Effect). apply_all es m) (sym none) ∙ leads)
+left_none effects m n none leads = sym (same_Some m n (ap (λ (es : List Effect). apply_all es m) (sym none) ∙ leads))
 
 pub doomed_by : (u : List ℕ) (fault : Fault) → requests.IsDoomedBy u fault → IsDoomed (IsText usual) u
 doomed_by u fault h = let f = h.fails in record {
@@ -288,7 +286,7 @@ module _ (w : WorldState) (book : Book minired) (l : ℕ) (k : Link) (s : Slot) 
       (no_multi_there words x.0 x.1.0) (λ master. special_plan words given s.node.core.held x.0 x.1.0 x.1.1.1) closed kind
 
   -- ---- a request that is answered
-  module _ (r : row.Serves s.node k.name (unread k.ask) given b outs) where
+  module _ (r : row.ServesClient s.node k.name (unread k.ask) given b outs) where
     unused : outs.used ≡ None
     unused = ap (λ (o : OutsState). o.used) r.outs_are
 

@@ -2,6 +2,7 @@
 use Rattle.std.proofs.Common.{◌≡◌, ◌+◌, ℕ, List, ◌++◌, Option, None, Some, length, take, refl, sym, ap, subst, ◌∙◌, arith, length-append, All}
 use Rattle.std.proofs.lemmas.Grind.{flat_map-append}
 use Rattle.std.proofs.Math.Seq.{take-append_seam}
+use Rattle.mr_inline.proofs.FaultReasons.{all_front}
 use Rattle.mr_effect.specs.declared.effect.Effect.{Effect}
 use Rattle.mr_keyspace.specs.Dataset.{Dataset}
 use Rattle.mr_groups.specs.Groups.{IsGoodGroup, group_text}
@@ -9,7 +10,6 @@ use Rattle.mr_groups.specs.Folding.{LeadsByGroups, MakesByGroups}
 use Rattle.mr_groups.proofs.Going.{led_once}
 use Rattle.law_protocol.specs.History.{Book, History, IsAt, Grows, texts, fold}
 use Rattle.law_protocol.proofs.Fronts.{some_is}
-use Rattle.law_protocol.proofs.Histories.{all_front}
 use Rattle.law_minired.specs.Minired.{minired}
 use Rattle.law_minired.proofs.Texts.{made_by_groups_is_one}
 use Rattle.law_refinement.specs.State.{BookEntry, WorldState}

@@ -10,10 +10,10 @@ use Rattle.mr_peer_lines.proofs.Apart.{apart}
 use Rattle.law_protocol.specs.Language.Line.{Continue, Plain, Refusal}
 use Rattle.law_protocol.specs.Node.{Node}
 use Rattle.law_protocol.specs.FollowerRows.{NoLine, NoSnapshot, IsStuckAt, BadAnswer}
+use Rattle.law_protocol.proofs.Histories.{same_length}
 use Rattle.law_minired.specs.Minired.{minired}
 use Rattle.law_minired.specs.Lines.{Says}
 use Rattle.law_minired.proofs.Said.{same_said, line_text}
-use Rattle.law_minired.proofs.Lists.{same_length}
 use Rattle.mr_follower.specs.State.{FollowState}
 use Rattle.mr_follower.specs.Lines as lines
 use Rattle.mr_follower.specs.Rows as follow

@@ -28,24 +28,24 @@ use Rattle.mr_follower.specs.Handshake.{ping_line, port_line, capabilities_line,
 use Rattle.mr_node_spec.specs.Sound.{ports}
 
 -- each word has less than 100 bytes
-abbrev AreShort : List (List ℕ) → Type 0
+abbrev pub AreShort : List (List ℕ) → Type 0
 AreShort [] = Unit {0}
 AreShort (w ∷ ws) = (length w < 100) × AreShort ws
 
-short_number : (n : ℕ) → n < 100 → length (number_line n) ≤ 9
+pub short_number : (n : ℕ) → n < 100 → length (number_line n) ≤ 9
 short_number n h =
     let d = length-decimal-le 7 n (lit< tt) (omega (arith, h)) (omega (arith, h)) in
     let a = length-append (decimal n) (13 ∷ 10 ∷ []) in
     omega (arith, d, a)
 
-short_bulk : (w : List ℕ) → length w < 100 → length (bulk w) ≤ 112
+pub short_bulk : (w : List ℕ) → length w < 100 → length (bulk w) ≤ 112
 short_bulk w h =
     let n = short_number (length w) h in
     let a = length-append (number_line (length w)) (w ++ 13 ∷ 10 ∷ []) in
     let b = length-append w (13 ∷ 10 ∷ []) in
     omega (arith, h, n, a, b)
 
-short_bulks : (ws : List (List ℕ)) → AreShort ws → length (flat_map bulk ws) ≤ 112 * length ws
+pub short_bulks : (ws : List (List ℕ)) → AreShort ws → length (flat_map bulk ws) ≤ 112 * length ws
 short_bulks [] h = omega arith
 short_bulks (w ∷ ws) h =
     let a = short_bulk w h.0 in
@@ -53,7 +53,7 @@ short_bulks (w ∷ ws) h =
     let c = length-append (bulk w) (flat_map bulk ws) in
     omega (arith, a, b, c)
 
-each_fits : (ws : List (List ℕ)) → AreShort ws → All (λ word. length word ≤ usual.word) ws
+pub each_fits : (ws : List (List ℕ)) → AreShort ws → All (λ word. length word ≤ usual.word) ws
 each_fits [] h = All-nil (λ word. length word ≤ usual.word)
 each_fits (w ∷ ws) h = let a = h.0 in All-cons (λ word. length word ≤ usual.word) w ws (omega (arith, a, usual-word)) (each_fits ws h.1)
 

@@ -1,8 +1,9 @@
 -- What is used at an end, and what is sent there, as histories see it.
-use Rattle.std.proofs.Common.{◌≡◌, ◌≢◌, ◌+◌, ◌-◌, ◌⊎◌, inl, inr, ℕ, List, [], ◌++◌, true, false, Option, None, Some, length, drop, refl, sym, ap, subst, ◌∙◌, arith}
+use Rattle.std.proofs.Common.{◌≡◌, ◌≢◌, ◌+◌, ◌-◌, inl, inr, ℕ, List, [], ◌++◌, true, false, Option, None, Some, length, drop, refl, sym, ap, subst, ◌∙◌, arith}
 use Rattle.std.specs.Prelude.{slice_get, slice_set}
 use Rattle.std.specs.Option.{option_map}
 use Rattle.std.proofs.lemmas.List.{drop-drop, append-nil}
+pub use Rattle.std.proofs.lemmas.Bool.{cases_eq as number_or}
 use Rattle.mr_links.specs.declared.link_id.LinkId.{LinkId}
 use Rattle.law_protocol.specs.Changes.{SetAt}
 use Rattle.law_protocol.specs.World as history
@@ -39,9 +40,6 @@ node_is s b file core follow e f = ap (λ (z : Core). seen_node (record s { node
 
 pub set_as : {A : Type 0} (f g : ℕ → Option A) (i : ℕ) (x y : A) → SetAt f g i x → x ≡ y → SetAt f g i y
 set_as f g i x y s e = (s.0 ∙ ap Some e, s.1)
-
-pub number_or : (a c : ℕ) → (a ≡ c) ⊎ (a ≢ c)
-number_or a c = grind arith
 
 pub still_at : {A B : Type 0} (f : A → B) (xs : List A) (i : ℕ) (x y : A) → slice_get xs i ≡ Some y → f x ≡ f y → (m : ℕ) → option_map f (slice_get (slice_set xs i x) m) ≡ option_map f (slice_get xs m)
 still_at f xs i x y e q m = elim (number_or m i) [

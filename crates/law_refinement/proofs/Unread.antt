@@ -1,6 +1,6 @@
 -- What is unread of a direction of a link.
 use Rattle.std.proofs.Common.{zero, suc, ◌≡◌, ◌+◌, ◌-◌, ◌≤◌, ℕ, List, [], ◌∷◌, ◌++◌, length, length-append, take, drop, refl, sym, ap, ◌∙◌, arith}
-use Rattle.std.proofs.Math.Seq.{take-add}
+use Rattle.std.proofs.Math.Seq.{take-add, drop-append_seam}
 use Rattle.std.proofs.lemmas.List.{drop-drop, length-drop, length-take}
 use Rattle.law_refinement.specs.Way.{WayState, IsWay, unread, sent_on, taken_on, used_on, left_on}
 
@@ -57,16 +57,12 @@ drop_take (suc n) (suc a) (x ∷ xs) = drop_take n a xs ∙ ap (λ k. take k (dr
     down : (a n : ℕ) → a - n ≡ suc a - suc n
     down a n = omega arith
 
-drop_seam : (a b : List ℕ) → drop (length a) (a ++ b) ≡ b
-drop_seam [] b = refl
-drop_seam (x ∷ a) b = drop_seam a b
-
 pub rest_of : (w : WayState) (text rest : List ℕ) → unread w ≡ text ++ rest → unread (used_on (length text) w) ≡ rest
 rest_of w text rest e =
     let t : w.taken - (w.used + length text) ≡ (w.taken - w.used) - length text = omega arith in
     ap (λ k. take k (drop (w.used + length text) w.sent)) t
     ∙ (ap (take ((w.taken - w.used) - length text)) (sym (drop-drop (length text) w.used w.sent))
-    ∙ (sym (drop_take (length text) (w.taken - w.used) (drop w.used w.sent)) ∙ (ap (drop (length text)) e ∙ drop_seam text rest)))
+    ∙ (sym (drop_take (length text) (w.taken - w.used) (drop w.used w.sent)) ∙ (ap (drop (length text)) e ∙ drop-append_seam text rest)))
 
 -- where the rest is left, the text is used
 pub left_used : (w : WayState) (text rest : List ℕ) (n : ℕ) → IsWay w → unread w ≡ text ++ rest → n ≡ length rest → left_on n w ≡ used_on (length text) w

@@ -1,5 +1,6 @@
 -- Each row of a step where a transaction is open is a row of histories.
 use Rattle.std.proofs.Common.{◌≡◌, ◌≢◌, ◌+◌, ◌-◌, ◌≤◌, inl, inr, ℕ, List, [], ◌++◌, Bool, true, false, not, Option, None, Some, Result, Ok, Err, length, refl, sym, ap, subst, ◌∙◌, arith}
+use Rattle.std.proofs.lemmas.Bool.{both_ways}
 use Rattle.mr_effect.specs.declared.effect.Effect.{Effect}
 use Rattle.mr_keyspace.specs.Dataset.{Dataset}
 use Rattle.mr_data.specs.declared.given.Given.{Given}
@@ -155,9 +156,6 @@ drops_none quits t reply h room m given = absurd h
 ends_not : ends ≢ quits
 ends_not e = cc
 
-both : (b : Bool) → b ≡ true → b ≡ false → ⊥
-both b p q = cc
-
 module _ (w : WorldState) (book : Book minired) (l : ℕ) (k : Link) (s : Slot) (t : ends.Transaction) (given : Given) (fresh : List ℕ) (b : NodeState) (outs : OutsState) (holds : Holds w book) (served : IsServed w l k s) (plain : k.streams ≡ false)
     (apart : Apart s.node k.name b outs) (held : open_on w.slots k ≡ Some (seen_transaction t)) where
   abbrev Event : Type 0
@@ -282,7 +280,7 @@ module _ (w : WorldState) (book : Book minired) (l : ℕ) (k : Link) (s : Slot) 
         let same : r.held ≡ s.node.core.held = do_nothing (frame_of s.node) (not s.node.core.master) given t.queued [] s.node.core.held r.held r.replies r.effects none r.does in
         concludes r.words r.rest r.asks other None (record {
           leads_to = leads_out;
-          none = λ m. absurd (both s.node.core.master m e);
+          none = λ m. absurd (both_ways s.node.core.master e m);
           core = r.core ∙ (ap (λ (es : List Effect). record s.node.core { held = r.held; lineage = grown s.node.core.lineage (grown_text es) }) none ∙ grown_none s.node.core r.held window same);
           follow = r.leaves.follow;
           link = link;

@@ -108,7 +108,7 @@ fits a l count n has less some t =
     let is : room_at (Some t.end) ≡ Some has.room = sym (ap room_at t.found) ∙ (sym (ap (λ b. if b then room_at (end_of a l) else None) t.up) ∙ has.is) in
     fits_at t.end has.room count n t.served is has.fits less some t.over
 
-no_longer : (count : ℕ) (xs : List ℕ) → length (take count xs) ≤ count
+pub no_longer : (count : ℕ) (xs : List ℕ) → length (take count xs) ≤ count
 no_longer count xs = let h = length-take count xs in omega (arith, h)
 
 -- ---- one event

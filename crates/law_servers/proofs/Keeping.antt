@@ -2,6 +2,7 @@
 use Rattle.std.proofs.Common.{◌≡◌, ◌++◌, ◌≤◌, ◌⊎◌, inl, inr, ℕ, zero, suc, List, [], ◌∷◌, Bool, true, Option, None, Some, Result, Ok, Err, take, drop, length, take_all, append-nil, refl, sym, ap, subst, ◌∙◌, arith}
 use Rattle.std.proofs.lemmas.List.{take-append-drop}
 use Rattle.std.specs.FinMap.{empty}
+use Rattle.std.proofs.lemmas.Option.{same_Some, none-some}
 use Rattle.mr_links.specs.declared.link_id.LinkId.{LinkId}
 use Rattle.mr_keyspace.specs.Dataset.{Dataset}
 use Rattle.mr_data.specs.declared.given.Given.{Given}
@@ -31,22 +32,18 @@ use Rattle.mr_loop.specs.declared.fault.LoopFault.{LoopFault}
 use Rattle.mr_loop.specs.declared.fault.LoopFault.TheVariants as fault
 use Rattle.mr_loop.specs.declared.lacking.Asked.TheVariants as asked
 use Rattle.mr_loop.specs.Lacking.{told_with}
-use Rattle.mr_loop.specs.Stage.{Stage, LoopState, losing}
+use Rattle.mr_loop.specs.Stage.{Stage, losing}
 use Rattle.mr_loop.specs.Carrying.{Carried, Spilled, Torn}
 use Rattle.mr_loop.specs.Causes.{Act, Calls, Dropped, TurnsOff, at_dial, at_step, at_tick, ended_at}
 use Rattle.mr_loop.specs.Rows.{Event, behind_refusal, fault_of, Happens, IsAppended, Run, acts, appends, breaks, closes, fails, finds_none, hears_end, idles, is_deaf, is_refused, joins, loses, misses, misses_dial, misses_tick, settles, spills, stops, takes, tears, turns_away, waits, wakes, writes}
 use Rattle.mr_loop.specs.Outcomes.{Broke, Fails, Serves, TurnsOn}
 use Rattle.mr_loop.proofs.Carried.{carried_core}
 use Rattle.mr_loop.proofs.Halting.{no_fault}
-use Rattle.mr_loop.proofs.Sending.{some_at}
+use Rattle.mr_loop.proofs.Sending.{some_at, batch_of}
+use Rattle.mr_loop.proofs.Taking.{done_closed}
+use Rattle.mr_loop.proofs.Outs.{memory_closed}
 use Rattle.law_servers.specs.Keeping.{FaultsTear, IsKept, IsTorn, KeptFilesAreWhole, TurnsKeep, TurnsLeaveWhole, WholeFilesAreKept}
 use Rattle.law_servers.proofs.Carrying.{by_all, by_outs, carried_has, cut, Has, of_all, old_or_these, ReplaceBy, Written}
-
-some_is : {A : Type 0} (x y : A) → Some x ≡ Some y → x ≡ y
-some_is x y e = cc
-
-none_some : {A : Type 0} (x : A) → ◌≡◌ {A = Option A} None (Some x) → ⊥
-none_some x e = cc
 
 -- ---- where nothing waits
 pub whole_kept : WholeFilesAreKept
@@ -81,12 +78,6 @@ turned_core a b (TurnsOff.dials_and_closes mid link outs d sound e) = ap (λ (z 
 
 idle_closed : ◌≡◌ {A = Result Step NodeFault} (Ok step.Idle) (Ok step.Closed) → ⊥
 idle_closed e = cc
-
-memory_closed : ◌≡◌ {A = Result Step NodeFault} (Err refusal.Memory) (Ok step.Closed) → ⊥
-memory_closed e = cc
-
-done_closed : (outs : OutsState) → ◌≡◌ {A = Result Step NodeFault} (Ok (step.Done outs)) (Ok step.Closed) → ⊥
-done_closed outs e = cc
 
 module _ (a b : NodeState) (l : LinkId) (given : Given) (fresh : List ℕ) (u : List ℕ) (up : a.core.up ≡ true) where
   idled : Agreeing a l u → Steps a l given fresh b (Ok step.Idle) → b.core.held ≡ a.core.held
@@ -124,9 +115,9 @@ called_has (at_dial socket link) s m outs h k = record { told = h.file.0 ∙ k.t
 
 -- what the file is replaced by makes the dataset
 replaced_makes : (a b : NodeState) (outs : OutsState) (file : List ℕ) → Files a b outs → outs.replaced ≡ Some file → MakesByGroups file b.core.held
-replaced_makes a b outs file (DoesToFile.grows g none) e = absurd (none_some file (sym none ∙ e))
+replaced_makes a b outs file (DoesToFile.grows g none) e = absurd (none-some file (sym none ∙ e))
 replaced_makes a b outs file (DoesToFile.replaces none whole again) e =
-    subst (λ (z : List ℕ). MakesByGroups z b.core.held) (some_is (rebuilt b.core.held) file (sym whole ∙ e)) (makes_by_singles (rebuilt b.core.held) b.core.held again)
+    subst (λ (z : List ℕ). MakesByGroups z b.core.held) (same_Some (rebuilt b.core.held) file (sym whole ∙ e)) (makes_by_singles (rebuilt b.core.held) b.core.held again)
 
 -- ---- what happens to the file
 stay : (s t : Stage) → t.told ≡ s.told → t.own.batch ≡ s.own.batch → t.node.core.held ≡ s.node.core.held → IsKept s → IsKept t
@@ -140,9 +131,6 @@ stay s t told batch held k = record {
 
 dropped : (socket : LinkId) (link : Option LinkId) (s t : Stage) → Dropped socket link s t → IsKept s → IsKept t
 dropped socket link s t d k = stay s t d.file.0 d.batch (ap (λ (z : NodeState). z.core.held) d.node ∙ held_of (ended_core link s.node)) k
-
-batch_of : {o p : LoopState} → p ≡ o → p.batch ≡ o.batch
-batch_of e = ap (λ (z : LoopState). z.batch) e
 
 node_of : {a b : NodeState} → b ≡ a → b.core.held ≡ a.core.held
 node_of e = ap (λ (z : NodeState). z.core.held) e
@@ -284,25 +272,25 @@ module _ (act : Act) (outs : OutsState) (s m t : Stage) (calls : Calls act s m o
 
 module _ (tells : Bool) (mode : SyncMode) (why : LoopFault) where
   torn_by : (e : Event) (s t : Stage) → fault_of e ≡ Some why → Happens tells mode s e t → IsKept s → IsTorn t
-  torn_by (wakes now) s t is h k = absurd (none_some why is)
-  torn_by waits s t is h k = absurd (none_some why is)
-  torn_by (joins j l) s t is h k = absurd (none_some why is)
-  torn_by turns_away s t is h k = absurd (none_some why is)
-  torn_by (takes j bytes) s t is h k = absurd (none_some why is)
-  torn_by (finds_none j) s t is h k = absurd (none_some why is)
-  torn_by (hears_end j x) s t is h k = absurd (none_some why is)
-  torn_by (loses j) s t is h k = absurd (none_some why is)
-  torn_by (misses j) s t is h k = absurd (none_some why is)
-  torn_by (is_refused j l given fresh) s t is h k = absurd (none_some why is)
-  torn_by (is_deaf j l) s t is h k = absurd (none_some why is)
-  torn_by (idles j l given fresh) s t is h k = absurd (none_some why is)
-  torn_by (acts act outs) s t is h k = absurd (none_some why is)
+  torn_by (wakes now) s t is h k = absurd (none-some why is)
+  torn_by waits s t is h k = absurd (none-some why is)
+  torn_by (joins j l) s t is h k = absurd (none-some why is)
+  torn_by turns_away s t is h k = absurd (none-some why is)
+  torn_by (takes j bytes) s t is h k = absurd (none-some why is)
+  torn_by (finds_none j) s t is h k = absurd (none-some why is)
+  torn_by (hears_end j x) s t is h k = absurd (none-some why is)
+  torn_by (loses j) s t is h k = absurd (none-some why is)
+  torn_by (misses j) s t is h k = absurd (none-some why is)
+  torn_by (is_refused j l given fresh) s t is h k = absurd (none-some why is)
+  torn_by (is_deaf j l) s t is h k = absurd (none-some why is)
+  torn_by (idles j l given fresh) s t is h k = absurd (none-some why is)
+  torn_by (acts act outs) s t is h k = absurd (none-some why is)
   torn_by (spills act outs) s t is h k = spilled act outs s h.called t h.calls k h.spilled
   torn_by (tears act outs) s t is h k = torn act outs s h.called t h.calls k h.torn
-  torn_by (writes j bytes) s t is h k = absurd (none_some why is)
-  torn_by (breaks j) s t is h k = absurd (none_some why is)
-  torn_by (closes j) s t is h k = absurd (none_some why is)
-  torn_by (appends texts) s t is h k = absurd (none_some why is)
+  torn_by (writes j bytes) s t is h k = absurd (none-some why is)
+  torn_by (breaks j) s t is h k = absurd (none-some why is)
+  torn_by (closes j) s t is h k = absurd (none-some why is)
+  torn_by (appends texts) s t is h k = absurd (none-some why is)
   torn_by fails s t is h k =
       let p = some_at (λ xs. (n : ℕ) × ((n ≤ length s.own.batch) × (t.told ≡ Some (xs ++ take n s.own.batch)))) s.told k.file k.told h.written in record {
         front = k.file;
@@ -314,9 +302,9 @@ module _ (tells : Bool) (mode : SyncMode) (why : LoopFault) where
         next = s.node.core.held;
         leads = subst (λ (z : List ℕ). LeadsByGroups z k.filed s.node.core.held) (sym (take-append-drop p.0 s.own.batch)) k.waiting;
       }
-  torn_by (misses_tick given) s t is h k = absurd (none_some why is)
-  torn_by misses_dial s t is h k = absurd (none_some why is)
-  torn_by (settles hurries) s t is h k = absurd (none_some why is)
+  torn_by (misses_tick given) s t is h k = absurd (none-some why is)
+  torn_by misses_dial s t is h k = absurd (none-some why is)
+  torn_by (settles hurries) s t is h k = absurd (none-some why is)
   torn_by (stops stop) s t is h k = whole_torn t k.file k.filed (h.file.0 ∙ k.told) k.made
 
   broke_torn : (unused : List (List ℕ)) (drawn after : DrawnState) (s t : Stage) → IsKept s → Broke tells mode unused drawn after why s t → IsTorn t

@@ -40,7 +40,7 @@ use Rattle.mr_world.proofs.Telling.{listen_keeps}
 use Rattle.mr_world.proofs.Ticking.{tick_keeps}
 use Rattle.mr_world.proofs.Unchanged.{no_event, stays}
 use Rattle.law_servers.specs.Calling.{IsCall, NodeCall, break, client, deliver, dial, opens_no_more, step, tick}
-use Rattle.law_servers.specs.Worlds.{Becomes, CallsAreEvents, Comes, Course, Halts, IsMeant, IsNamed, Moves, Serves, ServersKeepWorlds, ServersNeverDiffer, Stands, outcome_of}
+use Rattle.law_servers.specs.Worlds.{Becomes, CallsAreEvents, Comes, Course, Halts, IsMeant, IsNamed, Moves, CallsInWorld, ServersKeepWorlds, ServersNeverDiffer, Stands, outcome_of}
 use Rattle.law_servers.proofs.Standing.{named_taken}
 use Rattle.law_servers.proofs.Unseen.{goes_unseen}
 
@@ -116,7 +116,7 @@ module _ (w v : WorldState) (is : IsWorld w) where
     connects_keep w n s name b outs is running sound dials,
   )
 
-  served : Serves w v → Happens w v × IsWorld v
+  served : CallsInWorld w v → Happens w v × IsWorld v
   served m = elim m.becomes [
     | Becomes.by_event e named c stands ↦ (came_of e (outcome_of m.call) c, call_keeps m.number m.slot m.call e named c)
     | Becomes.unseen none same ↦ subst (λ z. Happens w z × IsWorld z) (sym same) (goes_unseen w m.number m.slot is m.running m.call m.node m.sound m.is none)

@@ -35,7 +35,7 @@ use Rattle.mr_world.specs.Following.{Follows, HasHeard, IsFollower}
 use Rattle.mr_world.specs.Hearing.{ListenCall, Tells}
 use Rattle.mr_world.specs.Linking.{BreaksOff, Delivers, DropCall, FollowsBy}
 use Rattle.mr_world.specs.Running.{EventCall, Outcome, by_opener, is_between_nodes}
-use Rattle.mr_world.specs.Serving.{HasServed, ServedRow, Serves, StepCall}
+use Rattle.mr_world.specs.Serving.{HasServed, ServedRow, ServesLink, StepCall}
 use Rattle.mr_world.specs.Stepping.{Ticks}
 use Rattle.mr_world.specs.declared.event.Event.{Event}
 use Rattle.mr_world.specs.declared.event.Event.TheVariants as event
@@ -187,7 +187,7 @@ module _ (w : WorldState) (n : ℕ) (s : Slot) (b : NodeState) (is : IsWorld w) 
         world = stepped w k.to s l k b outs;
         taken = (
           new,
-          Serves.carries (record {
+          ServesLink.carries (record {
             link = k;
             slot = s;
             served = served;

@@ -135,7 +135,7 @@ CallsAreEvents = (w : WorldState) (n : ℕ) (s : Slot) (call : NodeCall) (b : No
 
 -- ---- servers in a World
 -- A server's call on its node, as it happens in the World.
-pub record Serves (w v : WorldState) : Type 0 where
+pub record CallsInWorld (w v : WorldState) : Type 0 where
   pub number : ℕ
   pub slot : Slot
   pub running : IsRunning w number slot
@@ -155,7 +155,7 @@ pub record Halts (w v : WorldState) : Type 0 where
 -- From the one World to the next: an event that it takes; a call of a server on one of its nodes; or a server's node stops.
 pub data Moves (w v : WorldState) : Type 0 where
   happens : (e : Event) → EventCall w e v (Ok tt) → IsWorld v → Moves w v
-  serves : Serves w v → Moves w v
+  serves : CallsInWorld w v → Moves w v
   halts : Halts w v → Moves w v
 
 -- .. one after another
@@ -165,7 +165,7 @@ Course w (v ∷ vs) = Moves w v × Course v vs
 
 -- What a server does is an event of histories there, or nothing that they see; and it leaves a World.
 abbrev pub ServersKeepWorlds : Type 0
-ServersKeepWorlds = (w v : WorldState) → IsWorld w → (Serves w v ⊎ Halts w v) → Happens w v × IsWorld v
+ServersKeepWorlds = (w v : WorldState) → IsWorld w → (CallsInWorld w v ⊎ Halts w v) → Happens w v × IsWorld v
 
 -- **In one World, servers' calls never make nodes differ silently.** However the nodes of a World are run, by its events or by calls of servers that are events there: at any two
 -- moments nodes that show one id and one offset hold one dataset.

@@ -17,7 +17,7 @@ use Rattle.mr_world_parts.specs.AtLink.{shut_at}
 use Rattle.mr_world_parts.specs.declared.side.Side.{Side}
 use Rattle.mr_world_parts.specs.declared.side.Side.TheVariants as side
 use Rattle.mr_world.proofs.Happened.{fresh}
-use Rattle.law_systems.proofs.Restarting.{restarts_world}
+use Rattle.mr_world.proofs.Restarts.{restarts_world}
 use Rattle.law_systems.specs.System.{Connection, End, IsAt, Server, System, runs}
 use Rattle.law_systems.specs.Network.{HasEnd}
 use Rattle.law_systems.specs.Steps.{Begins, IsNew, put_server}

@@ -20,7 +20,7 @@ use Rattle.mr_world_parts.specs.AtNode.{is_spent}
 use Rattle.mr_world_parts.specs.Answering.{IsBehind}
 use Rattle.mr_world_parts.specs.declared.side.Side.TheVariants as side
 use Rattle.mr_world.specs.declared.event.Event.TheVariants as event
-use Rattle.mr_world.specs.Serving.{ServedRow, Serves}
+use Rattle.mr_world.specs.Serving.{ServedRow, ServesLink}
 use Rattle.mr_world.proofs.Feeding.{its_end}
 use Rattle.mr_world.proofs.Served.{client_behind, replica_behind, within_behind}
 use Rattle.law_servers.specs.Calling.{step as stepping}
@@ -75,7 +75,7 @@ module _ (w : WorldState) (n : ℕ) (a : Slot) (name : LinkId) (l : ℕ) (is : I
       sound = sound;
       is = row;
       becomes = Becomes.by_event (event.Step l side.Server given fresh) (l, side.Server, end, new, refl)
-          (new, Serves.carries (record { link = k; slot = a; served = served; node = b; outs = outs; row = its_row; sound = sound }) (ap (λ i. stepped w i a l k b outs) (sym end.to)))
+          (new, ServesLink.carries (record { link = k; slot = a; served = served; node = b; outs = outs; row = its_row; sound = sound }) (ap (λ i. stepped w i a l k b outs) (sym end.to)))
           (record { slot = behind a b outs; there = set_here w.slots n (behind a b outs) a running.at; is = refl });
     }))
 

@@ -1,13 +1,11 @@
 -- What is never both, and what an equation of two of a kind says.
 use Rattle.std.proofs.Common.{◌≡◌, Option, None, Some, refl, sym}
 use Rattle.std.specs.Option.{option_map}
+pub use Rattle.std.proofs.lemmas.Option.{none-some as no_some}
 use Rattle.mr_loop.specs.Stage.{Stage}
 use Rattle.law_refinement.specs.State.{Link}
 use Rattle.law_refinement.proofs.Places.{some_is}
 use Rattle.law_systems.specs.System.{gives_up, rests, runs}
-
-pub no_some : {A : Type 0} (x : A) → ◌≡◌ {A = Option A} None (Some x) → ⊥
-no_some x e = cc
 
 -- what a map made of something
 pub from_map : (f : Link → Link) (o : Option Link) (y : Link) → option_map f o ≡ Some y → (x : Link) × (o ≡ Some x) × (y ≡ f x)

@@ -8,6 +8,7 @@ use Rattle.mr_replication.specs.State.{name_of}
 use Rattle.mr_node_links.specs.State.{EndState, Transaction, streams}
 use Rattle.mr_node_links.specs.State.EndState.{shut}
 use Rattle.mr_node_links.specs.Replicas.{is_named}
+use Rattle.mr_node_links.proofs.Naming.{AreOnce}
 use Rattle.mr_node_output.specs.Outs.{OutsState}
 use Rattle.mr_node_spec.specs.State.{IsNode, NodeState, OthersStay, end_of}
 use Rattle.mr_node_spec.specs.Ends.{Leaves, Settles, names_of}
@@ -16,7 +17,7 @@ use Rattle.mr_node_spec.specs.ClientRows.{ClientRow, Closes}
 use Rattle.mr_node_spec.specs.Transactions.{WithinRow}
 use Rattle.mr_node_spec.specs.ReplicaRows.{ReplicaRow}
 use Rattle.mr_loop.proofs.Waiting.{itself}
-use Rattle.law_systems.proofs.Pushing.{AreOnce, none_once}
+use Rattle.law_systems.proofs.Pushing.{none_once}
 
 -- None is fed but those to which the stream is sent, and each of them once.
 pub record FeedsSome (a : NodeState) (fed : List LinkId) : Type 0 where

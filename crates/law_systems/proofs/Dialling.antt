@@ -27,7 +27,7 @@ use Rattle.mr_world_parts.specs.AtNode.{is_spent}
 use Rattle.mr_world_parts.specs.declared.side.Side.{Side}
 use Rattle.mr_world_parts.specs.declared.side.Side.TheVariants as side
 use Rattle.law_servers.specs.Calling.{dial}
-use Rattle.law_servers.specs.Worlds.{Becomes, NoneOpen, Serves}
+use Rattle.law_servers.specs.Worlds.{Becomes, NoneOpen, CallsInWorld}
 use Rattle.law_servers.proofs.Moving.{servers_keep_worlds}
 use Rattle.law_systems.specs.System.{Connection, Doing, End, IsAt, System, dialled_by, end_at, gives_up, is_taken, runs}
 use Rattle.law_systems.specs.Network.{HasEnd, end_of}
@@ -61,7 +61,7 @@ module _ (x : System) (w : WorldState) (n life : ℕ) (s : Stage) (wired : IsWir
   dials : Dials slot.node link m.node outs
   dials = subst (λ (z : NodeState). Dials z link m.node outs) (sym stands.node) c.dials
 
-  connects : Serves w v
+  connects : CallsInWorld w v
   connects = record {
     number = n;
     slot = slot;

@@ -1,6 +1,7 @@
 -- The laws, from what each step of servers leads to.
-use Rattle.std.proofs.Common.{◌≡◌, ℕ, List, [], ◌∷◌, true, false, ◌||◌, Bool, Option, Some, refl, sym, ap, subst, ◌∙◌}
+use Rattle.std.proofs.Common.{◌≡◌, ℕ, List, [], ◌∷◌, true, false, ◌||◌, Bool, Some, refl, sym, ap, subst, ◌∙◌}
 use Rattle.std.specs.Prelude.{bytes_eq, slice_get}
+use Rattle.std.proofs.lemmas.Option.{none-some}
 use Rattle.mr_keyspace.specs.Dataset.{Dataset}
 use Rattle.mr_bytes.proofs.Numbers.{equal_bytes, same_bytes}
 use Rattle.mr_repl.specs.ReplId.{zero_id}
@@ -17,9 +18,6 @@ use Rattle.law_systems.specs.Servers.{Has, HasWorld, IsBeside, ServersHaveWorlds
 use Rattle.law_systems.proofs.Mirrors.{Leads, Mirrors}
 use Rattle.law_systems.proofs.Passing.{follows}
 
-none_there : {A : Type 0} (i : ℕ) (x : A) → ◌≡◌ {A = Option A} (slice_get [] i) (Some x) → ⊥
-none_there i x e = cc
-
 -- the id of zeros alone is spent at first
 zero_spent : (id : List ℕ) → (bytes_eq id zero_id || false) ≡ true → is_taken (zero_id ∷ []) id ≡ true
 zero_spent id e = go (bytes_eq id zero_id) refl e
@@ -33,10 +31,10 @@ mirrors_begin = record {
   world = worlds_begin.world;
   as_many = refl;
   as_many_links = refl;
-  slots = λ n a e. absurd (none_there n a e);
+  slots = λ n a e. absurd (none-some a e);
   ids = zero_spent;
-  lines = λ c k l e. absurd (none_there c k e);
-  live = λ c at k e l t held s end. absurd (none_there c k end.found);
+  lines = λ c k l e. absurd (none-some k e);
+  live = λ c at k e l t held s end. absurd (none-some k end.found);
 }
 
 -- what a server has is what the World beside has

@@ -40,7 +40,7 @@ use Rattle.mr_world.specs.Following.{Follows}
 use Rattle.mr_world.specs.declared.event.Event.TheVariants as event
 use Rattle.mr_world.proofs.Kept.{closed_end}
 use Rattle.law_servers.specs.Calling.{break, step as stepping}
-use Rattle.law_servers.specs.Worlds.{Becomes, NoneOpen, Serves}
+use Rattle.law_servers.specs.Worlds.{Becomes, NoneOpen, CallsInWorld}
 use Rattle.law_servers.proofs.Moving.{servers_keep_worlds}
 use Rattle.law_systems.specs.System.{IsAt, System, gives_up, is_taken, runs}
 use Rattle.law_systems.proofs.Wired.{IsWired}
@@ -106,7 +106,7 @@ module _ (x : System) (w : WorldState) (n life : ℕ) (s : Stage) (wired : IsWir
   abbrev j : Link
   j = heard_as m.node.follow outs.reply o.line
 
-  serves : Serves w v
+  serves : CallsInWorld w v
   serves = record {
     number = n;
     slot = slot;
@@ -212,7 +212,7 @@ module _ (x : System) (w : WorldState) (n life : ℕ) (s : Stage) (wired : IsWir
     up_there : m.node.core.up ≡ true
     up_there = ap (λ (z : NodeState). z.core.up) hears.node ∙ stands.running.up
 
-    forgets : Serves v last
+    forgets : CallsInWorld v last
     forgets = record {
       number = n;
       slot = after;

@@ -41,7 +41,6 @@ pub mod WiringEvents
 pub mod WiringConnections
 pub mod Wiring
 pub mod Standing
-pub mod Restarting
 pub mod Begun
 pub mod Beginning
 pub mod Again

@@ -2,9 +2,11 @@
 use Rattle.std.proofs.Common.{◌≡◌, ◌≢◌, ◌++◌, ◌||◌, ℕ, List, [], ◌∷◌, Bool, true, false, cond, Option, None, Some, append-nil, append_assoc, refl, sym, ap, ◌∙◌, if◌then◌else◌}
 use Rattle.std.specs.Ordering.{eq_by_cmp}
 use Rattle.std.specs.Option.{option_map}
+use Rattle.std.proofs.Math.Bool.{or-true}
 use Rattle.mr_links.specs.LinkId.{id_cmp}
 use Rattle.mr_links.specs.declared.link_id.LinkId.{LinkId}
 use Rattle.mr_node_links.specs.Replicas.{is_named}
+use Rattle.mr_node_links.proofs.Naming.{AreOnce}
 use Rattle.mr_node_output.specs.Address.{AddressState}
 use Rattle.mr_node_output.specs.Outs.{OutState, OutsState, append, appended_outs, close, closed_outs, closing_outs, fed_outs, follow, followed_outs, grow, grown_outs, halt, halted_outs, outs_of, replace, replaced_outs, role_outs, send, sent_outs, use_id, used_outs}
 use Rattle.mr_connections.specs.State.{ConnectionState, left, pushed, where_linked}
@@ -130,10 +132,6 @@ reply_part o l = if is_at o.link l then o.reply else []
 -- whether the link is closed
 abbrev pub parting : OutsState → LinkId → Bool
 parting o l = ends_at o.link o.closes l || is_named o.closed l
-
--- none of them stands there twice
-abbrev pub AreOnce : List LinkId → Type 0
-AreOnce names = (front behind : List LinkId) (x : LinkId) → names ≡ front ++ x ∷ behind → is_named behind x ≡ false
 
 pub none_once : (names : List LinkId) → names ≡ [] → AreOnce names
 none_once names none [] behind x e = absurd (cc)
@@ -343,16 +341,12 @@ ends_not link closes l stays = ap (λ b. ends_at link b l) stays
 ends_there : (link : Option LinkId) (closes : Bool) (l : LinkId) → closes ≡ true → ends_at link closes l ≡ is_at link l
 ends_there link closes l ends = ap (λ b. ends_at link b l) ends
 
-or_true : (b : Bool) → (b || true) ≡ true
-or_true true = refl
-or_true false = refl
-
 -- the reply's link is closed behind it
 pub parts_here : (o : OutsState) (l : LinkId) → o.link ≡ Some l → o.closes ≡ true → parting o l ≡ true
 parts_here o l is closes = ap (λ b. b || is_named o.closed l) (ends_there o.link o.closes l closes ∙ at_its_link o.link l is)
 
 pub parts_named : (o : OutsState) (l : LinkId) → is_named o.closed l ≡ true → parting o l ≡ true
-parts_named o l named = ap (λ b. ends_at o.link o.closes l || b) named ∙ or_true (ends_at o.link o.closes l)
+parts_named o l named = ap (λ b. ends_at o.link o.closes l || b) named ∙ or-true (ends_at o.link o.closes l)
 
 -- where no reply's link is closed, those of these names alone are
 pub parts_alone : (o : OutsState) (l : LinkId) → o.closes ≡ false → parting o l ≡ is_named o.closed l

@@ -2,12 +2,13 @@
 use Rattle.std.proofs.Common.{◌≡◌, ◌≢◌, ◌++◌, ℕ, List, [], true, false, Option, None, Some, append-nil, if◌then◌else◌, refl, sym, ap, ◌∙◌}
 use Rattle.mr_links.specs.declared.link_id.LinkId.{LinkId}
 use Rattle.mr_node_links.specs.Replicas.{is_named}
+use Rattle.mr_node_links.proofs.Naming.{AreOnce}
 use Rattle.mr_node_output.specs.Outs.{OutsState, outs_of}
 use Rattle.mr_connections.specs.State.{ConnectionState}
 use Rattle.mr_loop.specs.Stage.{Stage}
 use Rattle.mr_loop.specs.Giving.{listed}
 use Rattle.law_systems.specs.System.{gives_up, is_taken, runs}
-use Rattle.law_systems.proofs.Pushing.{AreOnce, carried_held, carried_none, carried_to, fed_nobody, fed_part, held_as, none_once, parting, parts_elsewhere, parts_here, parts_none, reply_elsewhere, reply_here, reply_part}
+use Rattle.law_systems.proofs.Pushing.{carried_held, carried_none, carried_to, fed_nobody, fed_part, held_as, none_once, parting, parts_elsewhere, parts_here, parts_none, reply_elsewhere, reply_here, reply_part}
 
 -- ---- all goes to one link
 -- Nothing of the stream is sent, and of links that are closed none is a replica's; a reply goes to this link.

@@ -1,5 +1,5 @@
 -- Bytes that were read come to the node. In the World the link brings them; a client sends them first; and where the end isn't open there the node drops them.
-use Rattle.std.proofs.Common.{◌≡◌, ◌≢◌, ◌≤◌, ◌<◌, ◌+◌, ◌-◌, ◌++◌, inl, ℕ, List, [], ◌∷◌, Bool, true, Option, None, Some, Ok, length, take, drop, length-append, length-drop, length-take, append_assoc, take_all, refl, sym, ap, subst, ◌∙◌, arith, if◌then◌else◌}
+use Rattle.std.proofs.Common.{◌≡◌, ◌≢◌, ◌≤◌, ◌<◌, ◌+◌, ◌-◌, ◌++◌, inl, ℕ, List, [], ◌∷◌, Bool, true, Option, None, Some, Ok, length, take, drop, length-append, length-drop, append_assoc, take_all, refl, sym, ap, subst, ◌∙◌, arith, if◌then◌else◌}
 use Rattle.std.specs.Prelude.{slice_get, slice_set}
 use Rattle.std.proofs.lemmas.List.{set-set}
 use Rattle.std.specs.FinMap.{get}
@@ -34,6 +34,7 @@ use Rattle.mr_world.proofs.Happened.{heard, listened, sent}
 use Rattle.mr_world.proofs.Kept.{command_keeps}
 use Rattle.mr_world.proofs.Telling.{listen_keeps}
 use Rattle.law_servers.specs.Worlds.{IsEndOf, NoneOpen, way_to}
+use Rattle.law_servers.proofs.Calling.{no_longer}
 use Rattle.law_systems.specs.System.{Connection, End, IsAt, System, end_at, from_side, is_taken, runs, to_side, with_pipe_to}
 use Rattle.law_systems.specs.Network.{HasEnd, IsNext, Reads, end_of, read_on}
 use Rattle.law_systems.proofs.Wired.{IsWired}
@@ -82,9 +83,6 @@ fits : (a : NodeState) (l : LinkId) (count n : ℕ) → HasRoom a l count → n 
 fits a l count n has less some t =
     let is : room_at (Some t.end) ≡ Some has.room = sym (ap room_at t.found) ∙ (sym (ap (λ b. if b then room_at (node_end a l) else None) t.up) ∙ has.is) in
     fits_at t.end has.room count n t.served is has.fits less some t.over
-
-no_longer : (count : ℕ) (xs : List ℕ) → length (take count xs) ≤ count
-no_longer count xs = let h = length-take count xs in omega (arith, h)
 
 -- ---- bytes change nothing of whom a node follows
 fed_name : (a b : NodeState) (l : LinkId) (bytes : List ℕ) → Feeds a l bytes b → name_of b.follow ≡ name_of a.follow

@@ -22,7 +22,7 @@ use Rattle.law_refinement.specs.Runs.{Happens}
 use Rattle.mr_world.specs.Stepping.{Ticks}
 use Rattle.mr_world.specs.declared.event.Event.TheVariants as event
 use Rattle.law_servers.specs.Calling.{tick}
-use Rattle.law_servers.specs.Worlds.{Becomes, Serves}
+use Rattle.law_servers.specs.Worlds.{Becomes, CallsInWorld}
 use Rattle.law_servers.proofs.Moving.{servers_keep_worlds}
 use Rattle.law_systems.specs.System.{Doing, IsAt, System, gives_up, runs}
 use Rattle.law_systems.proofs.Wired.{IsWired}
@@ -101,7 +101,7 @@ module _ (x : System) (w : WorldState) (n life : ℕ) (s : Stage) (wired : IsWir
   abbrev after : Slot
   after = behind slot m.node outs
 
-  serves : Serves w v
+  serves : CallsInWorld w v
   serves = record {
     number = n;
     slot = slot;

@@ -40,7 +40,7 @@ use Rattle.mr_world.proofs.Heard.{lacks_here, spends_here, waits_here}
 use Rattle.mr_world.proofs.Kept.{closed_end}
 use Rattle.mr_world.proofs.Meeting.{stood}
 use Rattle.law_servers.specs.Calling.{break, step as stepping}
-use Rattle.law_servers.specs.Worlds.{Becomes, Serves}
+use Rattle.law_servers.specs.Worlds.{Becomes, CallsInWorld}
 use Rattle.law_servers.proofs.Moving.{servers_keep_worlds}
 use Rattle.law_systems.specs.System.{IsAt, System, gives_up, is_taken, runs}
 use Rattle.law_systems.proofs.Wired.{IsWired}
@@ -134,7 +134,7 @@ module _ (x : System) (w : WorldState) (n life : ℕ) (s : Stage) (wired : IsWir
       abbrev v : WorldState
       v = put_node w n slot t.node
 
-      serves : Serves w v
+      serves : CallsInWorld w v
       serves = record {
         number = n;
         slot = slot;
@@ -188,7 +188,7 @@ module _ (x : System) (w : WorldState) (n life : ℕ) (s : Stage) (wired : IsWir
       abbrev first : WorldState
       first = put_node w n slot node
 
-      lacking : Serves w first
+      lacking : CallsInWorld w first
       lacking = record {
         number = n;
         slot = slot;
@@ -226,7 +226,7 @@ module _ (x : System) (w : WorldState) (n life : ℕ) (s : Stage) (wired : IsWir
       up_first : node.core.up ≡ true
       up_first = reads_on.up ∙ up
 
-      dropping : Serves first last
+      dropping : CallsInWorld first last
       dropping = record {
         number = n;
         slot = put node;
@@ -304,7 +304,7 @@ module _ (x : System) (w : WorldState) (n life : ℕ) (s : Stage) (wired : IsWir
     abbrev after : WorldState
     after = put_node w n slot t.node
 
-    spending : Serves w after
+    spending : CallsInWorld w after
     spending = record {
       number = n;
       slot = slot;

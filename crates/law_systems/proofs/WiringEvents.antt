@@ -1,16 +1,14 @@
 -- What each event of a turn makes of a server's stage, where the turn goes on.
-use Rattle.std.proofs.Common.{◌≡◌, ◌≤◌, ◌<◌, ◌+◌, ℕ, List, [], ◌∷◌, Bool, true, Option, None, Some, Result, Ok, Err, refl, sym, ap, ◌∙◌, arith}
+use Rattle.std.proofs.Common.{◌≡◌, ◌≤◌, ◌<◌, ◌+◌, ℕ, List, [], ◌∷◌, Bool, true, Option, None, Some, Ok, Err, refl, sym, ap, ◌∙◌, arith}
 use Rattle.std.specs.FinMap.{get, insert}
 use Rattle.mr_links.specs.declared.link_id.LinkId.{LinkId}
 use Rattle.mr_file.specs.declared.sync_mode.SyncMode.{SyncMode}
 use Rattle.mr_node_output.specs.Outs.{OutState, OutsState, outs_of}
 use Rattle.mr_node_spec.specs.State.{NodeState}
 use Rattle.mr_node_spec.specs.LinkRows.{Opens}
-use Rattle.mr_node.specs.declared.fault.NodeFault.{NodeFault}
 use Rattle.mr_node.specs.declared.fault.NodeFault.TheVariants as refusal
-use Rattle.mr_node.specs.declared.step.Step.{Step}
 use Rattle.mr_node.specs.declared.step.Step.TheVariants as step
-use Rattle.mr_wire.specs.Wire.{LinkState, Opens as OpensWire, WireState, asked_link, behind_read, behind_write, count_of, new_link, sent_by, sent_on}
+use Rattle.mr_wire.specs.Wire.{LinkState, Opens as OpensWire, WireState, asked_link, behind_read, behind_write, count_of, new_link, bytes_moved, sent_on}
 use Rattle.mr_wire.specs.declared.wire.Moved.TheVariants as moved
 use Rattle.mr_connections.specs.State.{begun}
 use Rattle.mr_loop.specs.Stage.{LoopState, Stage}
@@ -19,7 +17,7 @@ use Rattle.mr_loop.specs.Causes.{Act, Calls, Dropped, Touches, TurnsOff, at_dial
 use Rattle.mr_loop.specs.Rows.{Event, Happens, acts, appends, breaks, closes, fails, fault_of, finds_none, hears_end, idles, is_deaf, is_refused, joins, loses, misses, misses_dial, misses_tick, settles, spills, stops, takes, tears, turns_away, waits, wakes, writes}
 use Rattle.mr_loop.proofs.Carried.{carried_node, carried_wire}
 use Rattle.mr_loop.proofs.Halting.{no_fault}
-use Rattle.mr_loop.proofs.Living.{went_up}
+use Rattle.mr_loop.proofs.Living.{went_up, done_stops, idle_stops, memory_stops}
 use Rattle.mr_loop.proofs.Sending.{some_at}
 use Rattle.law_systems.proofs.WiringNodes.{stepped_opened, ticked_opened}
 use Rattle.law_systems.proofs.WiringRows.{WasIn, all_carried, was_behind, was_dropped, was_parted, was_same, was_wrote}
@@ -75,15 +73,6 @@ dropped_opened {socket} {link} {s} d = ap (λ (z : NodeState). z.ends.opened) d.
 
 carried_opened : (outs : List OutState) (s t : Stage) → Carried outs s t → t.node.ends.opened ≡ s.node.ends.opened
 carried_opened outs s t c = carried_node (λ (z : NodeState). z.ends.opened ≡ s.node.ends.opened) (λ link a same. same) outs s t c refl
-
-done_stops : {outs : OutsState} → ◌≡◌ {A = Result Step NodeFault} (Ok (step.Done outs)) (Err refusal.Stopped) → ⊥
-done_stops e = cc
-
-idle_stops : ◌≡◌ {A = Result Step NodeFault} (Ok step.Idle) (Err refusal.Stopped) → ⊥
-idle_stops e = cc
-
-memory_stops : ◌≡◌ {A = Result Step NodeFault} (Err refusal.Memory) (Err refusal.Stopped) → ⊥
-memory_stops e = cc
 
 -- ---- a call, before its outs are carried out
 called_wire : (act : Act) (s m : Stage) (outs : OutsState) → Calls act s m outs → s.wire.opened ≤ m.wire.opened
@@ -183,9 +172,9 @@ module _ (tells : Bool) (mode : SyncMode) where
   wire_of (spills act outs) s t goes_on h = absurd (no_fault goes_on)
   wire_of (tears act outs) s t goes_on h = absurd (no_fault goes_on)
   wire_of (writes socket bytes) s t goes_on h =
-      at_most (touched_opened s.wire t.wire socket (behind_write tells h.answer h.waiting) (sent_by tells h.answer h.waiting) h.wire)
+      at_most (touched_opened s.wire t.wire socket (behind_write tells h.answer h.waiting) (bytes_moved tells h.answer h.waiting) h.wire)
   wire_of (breaks socket) s t goes_on h =
-      at_most (h.dropped.opened ∙ touched_opened s.wire h.wire socket (behind_write tells moved.Failed h.waiting) (sent_by tells moved.Failed h.waiting) h.touched)
+      at_most (h.dropped.opened ∙ touched_opened s.wire h.wire socket (behind_write tells moved.Failed h.waiting) (bytes_moved tells moved.Failed h.waiting) h.touched)
   wire_of (closes socket) s t goes_on h = at_most h.dropped.opened
   wire_of (appends texts) s t goes_on h = at_most (ap (λ (z : WireState). z.opened) h.wire)
   wire_of fails s t goes_on h = absurd (no_fault goes_on)

@@ -6,11 +6,9 @@ use Rattle.mr_data.specs.declared.given.Given.{Given}
 use Rattle.mr_replication.specs.State.{name_of}
 use Rattle.mr_replication.specs.declared.upstream.UpstreamStep.{UpstreamStep}
 use Rattle.mr_replication.specs.declared.upstream.UpstreamStep.TheVariants as outcome
-use Rattle.mr_node_output.specs.Outs.{OutsState, Output}
+use Rattle.mr_node_output.specs.Outs.{OutsState}
 use Rattle.mr_node_links.specs.State.{EndState, Transaction}
-use Rattle.mr_node_spec.specs.State.{Agrees, Core, NodeState}
-use Rattle.mr_node_spec.specs.Telling.{Around}
-use Rattle.mr_node_spec.specs.Served.{Answered, Served, beyond, keeps_role, nothing, request, rewritten, tells as told_of, within}
+use Rattle.mr_node_spec.specs.State.{Agrees, NodeState}
 use Rattle.mr_node_spec.specs.ClientRows.{ClientRow, begins, closes as shuts, demotes, halts, promotes, serves, synchronizes, turns}
 use Rattle.mr_node_spec.specs.Transactions.{WithinRow}
 use Rattle.mr_node_spec.specs.ReplicaRows.{ReplicaRow, notes, parts}
@@ -25,6 +23,7 @@ use Rattle.mr_node.specs.declared.fault.NodeFault.TheVariants as refusal
 use Rattle.mr_node.specs.declared.step.Step.{Step}
 use Rattle.mr_node.specs.declared.step.Step.TheVariants as step
 use Rattle.mr_loop.specs.Causes.{Stepped}
+use Rattle.mr_loop.proofs.Living.{row_up}
 
 -- ---- a step that used something
 row_opened : (a b : NodeState) (l : LinkId) (u : List ℕ) (given : Given) (fresh : List ℕ) (outs : OutsState)
@@ -129,32 +128,6 @@ ticked_opened (deletes up row) = ap (λ (z : Links EndState). z.opened) row.ends
 ticked_opened (rests up no_master mark row is) = by_node is
 
 -- ---- what a server asks itself leaves its node up
-by_core : {c d : Core} → d ≡ c → d.up ≡ c.up
-by_core e = ap (λ (z : Core). z.up) e
-
-answered_up : (c d : Core) (around : Around) (words : List (List ℕ)) (given : Given) (out : Output) → Answered c around words given d out
-    → d.up ≡ c.up
-answered_up c d around words given out (within plain reply effects plan fits core outs) = by_core core
-answered_up c d around words given out (beyond plain reply effects plan fits core outs) = by_core core
-answered_up c d around words given out (rewritten is remakes core outs) = by_core core
-answered_up c d around words given out (told_of question is core outs) = by_core core
-answered_up c d around words given out (keeps_role wish asks quiet core) = by_core core
-
-served_up : (c d : Core) (around : Around) (u rest : List ℕ) (given : Given) (out : Output) → Served c around u given d rest out → d.up ≡ c.up
-served_up c d around u rest given out (request words asks answered) = answered_up c d around words given out answered
-served_up c d around u rest given out (nothing asks core outs) = by_core core
-
-row_up : (a b : NodeState) (l : LinkId) (u : List ℕ) (given : Given) (fresh : List ℕ) (outs : OutsState)
-    → ClientRow a l u given fresh b outs → b.core.up ≡ a.core.up
-row_up a b l u given fresh outs (serves s) = served_up a.core b.core s.around u s.rest given s.out s.served
-row_up a b l u given fresh outs (shuts s) = by_core s.core
-row_up a b l u given fresh outs (halts s) = by_core s.core
-row_up a b l u given fresh outs (synchronizes s) = by_core s.core
-row_up a b l u given fresh outs (promotes s) = by_core s.core
-row_up a b l u given fresh outs (turns s) = by_core s.core
-row_up a b l u given fresh outs (demotes s) = by_core s.core
-row_up a b l u given fresh outs (begins s) = by_core s.core
-
 pub asked_up : (a b : NodeState) (l : LinkId) (u : List ℕ) (given : Given) (fresh : List ℕ) (outs : OutsState) → Agrees a l u
     → a.core.up ≡ true → Steps a l given fresh b (Ok (step.Done outs)) → b.core.up ≡ true
 asked_up a b l u given fresh outs agrees up row = row_up a b l u given fresh outs (row.at_client u (record { up = up; agrees = agrees })) ∙ up

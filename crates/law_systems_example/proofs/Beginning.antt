@@ -4,6 +4,7 @@ use Rattle.std.specs.Fmt.{decimal}
 use Rattle.std.specs.Ordering.{eq_by_cmp}
 use Rattle.std.specs.FinMap.{empty, get, get-empty, get-remove}
 use Rattle.std.proofs.lemmas.Fmt.{length-decimal-le}
+use Rattle.law_refinement.proofs.Lines.{AreShort}
 use Rattle.mr_links.specs.LinkId.{id_cmp, link_id}
 use Rattle.mr_links.specs.declared.link_id.LinkId.{LinkId}
 use Rattle.mr_links.proofs.LinkRows.{ids_total}
@@ -39,7 +40,7 @@ use Rattle.law_systems.specs.Steps.{AsksItself, IsNew}
 use Rattle.law_systems_example.proofs.Parts.{begun_as, begun_stage, first_address, first_port}
 use Rattle.law_systems_example.proofs.Stages.{Stands, got, other}
 use Rattle.law_systems_example.proofs.Acting.{client_steps}
-use Rattle.law_systems_example.proofs.Wording.{AreShort, asks_words, short_text}
+use Rattle.law_systems_example.proofs.Wording.{asks_words, short_text}
 use Rattle.law_systems_example.proofs.Reading.{follow_asked}
 
 -- what a node that begins is, its ends apart

@@ -4,6 +4,7 @@ use Rattle.std.specs.Prelude.{bytes_eq}
 use Rattle.std.specs.Fmt.{decimal}
 use Rattle.std.proofs.lemmas.Fmt.{length-decimal-le}
 use Rattle.std.proofs.lemmas.List.Sums.{AllPass-from_list_all}
+use Rattle.law_refinement.proofs.Lines.{AreShort}
 use Rattle.mr_resp.specs.Spelling.{array}
 use Rattle.mr_resp.specs.Replies.{reply_text}
 use Rattle.mr_effect.specs.Spelling.{texts}
@@ -42,7 +43,7 @@ use Rattle.law_systems_example.proofs.Hearing.{hears_next, reader}
 use Rattle.law_systems_example.proofs.Beginning.{told_core}
 use Rattle.law_systems_example.proofs.Setting.{set_core, set_window}
 use Rattle.law_systems_example.proofs.Serving.{introduced, ping_answered, pong}
-use Rattle.law_systems_example.proofs.Wording.{AreShort, short_text}
+use Rattle.law_systems_example.proofs.Wording.{short_text}
 use Rattle.law_systems_example.proofs.Reading.{capabilities_asked, port_asked, psync_asked}
 use Rattle.law_systems_example.proofs.Synchronizing.{copy_act, copy_outs, copy_short, copy_text, snapshot, synchronizes_next}
 use Rattle.law_systems_example.proofs.Loading.{announce_act, announce_outs, announces_next, installs_next, load_act, load_outs}

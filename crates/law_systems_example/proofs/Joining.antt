@@ -1,5 +1,6 @@
 -- Two servers with a connection between them: one line of the handshake and its answer.
 use Rattle.std.proofs.Common.{◌≡◌, ◌≢◌, ◌<◌, ◌^◌, ◌++◌, ℕ, List, [], ◌∷◌, true, Option, None, Some, length, refl, sym, ap, subst, ◌∙◌, arith}
+use Rattle.law_refinement.proofs.Lines.{AreShort}
 use Rattle.mr_links.specs.LinkId.{link_id}
 use Rattle.mr_links.specs.declared.link_id.LinkId.{LinkId}
 use Rattle.mr_resp.specs.Spelling.{array}
@@ -25,7 +26,7 @@ use Rattle.law_systems_example.proofs.Moving.{takes_next, writes_next}
 use Rattle.law_systems_example.proofs.Hearing.{greet_act, greet_outs, greets_next, hears_next, reader}
 use Rattle.law_systems_example.proofs.Pairs.{all_next, all_read, drained, filled, first_turns, other_turns}
 use Rattle.law_systems_example.proofs.Serving.{quiet_act, quiet_next, quiet_outs}
-use Rattle.law_systems_example.proofs.Wording.{AreShort, short_text}
+use Rattle.law_systems_example.proofs.Wording.{short_text}
 
 -- ---- steps, one after another
 pub one_step : (x y : System) → Step x y → Reaches x y

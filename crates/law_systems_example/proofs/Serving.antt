@@ -43,10 +43,11 @@ use Rattle.mr_loop.specs.Causes.{Act, Stepped, at_step}
 use Rattle.mr_loop.specs.Rows.{acts}
 use Rattle.mr_loop.specs.Stage.{Stage}
 use Rattle.law_refinement.proofs.Clients.{grown_none}
+use Rattle.law_refinement.proofs.Lines.{AreShort}
 use Rattle.law_systems_example.proofs.Stages.{Next, On, Stands, got, sound_as, still_free}
 use Rattle.law_systems_example.proofs.Moving.{is_up}
 use Rattle.law_systems_example.proofs.Acting.{Became, answers_next, client_stepped}
-use Rattle.law_systems_example.proofs.Wording.{AreShort, asks_words, some_text}
+use Rattle.law_systems_example.proofs.Wording.{asks_words, some_text}
 use Rattle.law_systems_example.proofs.Reading.{ping_asked}
 
 -- ---- what is answered

@@ -1,5 +1,6 @@
 -- A master is asked for its stream by one who has another: it answers with the whole dataset.
 use Rattle.std.proofs.Common.{◌≡◌, ◌≢◌, ◌<◌, ◌≤◌, ◌++◌, inl, inr, ℕ, pos, List, [], ◌∷◌, None, Some, Ok, length, refl, sym, ap, subst, arith}
+use Rattle.law_refinement.proofs.Lines.{AreShort}
 use Rattle.mr_links.specs.declared.link_id.LinkId.{LinkId}
 use Rattle.mr_resp.specs.Spelling.{array}
 use Rattle.mr_data.specs.declared.given.Given.{Given}
@@ -35,7 +36,7 @@ use Rattle.law_systems_example.specs.Systems.{with_key}
 use Rattle.law_systems_example.proofs.Stages.{Next, On, Stands, got, sound_as, still_free}
 use Rattle.law_systems_example.proofs.Moving.{is_up}
 use Rattle.law_systems_example.proofs.Acting.{Became, answers_next, client_stepped}
-use Rattle.law_systems_example.proofs.Wording.{AreShort, asks_words, some_text}
+use Rattle.law_systems_example.proofs.Wording.{asks_words, some_text}
 use Rattle.law_systems_example.proofs.Setting.{set_core}
 use Rattle.law_systems_example.proofs.Keys.{rebuilding_is, remakes, texts_short}
 

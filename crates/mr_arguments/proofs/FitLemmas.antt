@@ -6,6 +6,7 @@ use Rattle.std.proofs.lemmas.List.Elements.{All-from_recursion, recursion_from_A
 use Rattle.std.proofs.lemmas.List.Folds.{list_all-append}
 use Rattle.std.proofs.lemmas.List.Sorted.{All-permutation, IsPermutation-sym}
 use Rattle.mr_bytes.specs.Words.{fits}
+use Rattle.mr_bytes.proofs.Both.{first, second}
 use Rattle.mr_arguments.specs.Spelling.{Part, Word, Number, Keyword, Positive, Score, ScoreBound, AreParts, in_a_row}
 
 pub all_words : (ws : List (List ℕ)) → AreParts ws (map Word ws)
@@ -26,14 +27,6 @@ pub carried-words : (ws : List (List ℕ)) → carried (map Word ws) ≡ ws
 unfolding carried
 carried-words [] = refl
 carried-words (w ∷ ws) = ap (λ (xs : List (List ℕ)). w ∷ xs) (carried-words ws)
-
-pub first : (a b : Bool) → IsTrue (a && b) → IsTrue a
-first true b h = refl
-first false b h = h
-
-pub second : (a b : Bool) → IsTrue (a && b) → IsTrue b
-second true b h = h
-second false b h = cc
 
 pub both : (a b : Bool) → IsTrue a → IsTrue b → IsTrue (a && b)
 both true b g h = h

@@ -75,3 +75,8 @@ pub only_found : {A : Type 0} (o : Option A) → OnlySyntax (ok_or o Syntax)
 unfolding OnlySyntax
 only_found None = refl
 only_found (Some a) = tt
+
+pub only_with : {A B : Type 0} (r : Result A AskFault) (next : A → Result B AskFault) → OnlySyntax r → ((a : A) → OnlySyntax (next a)) → OnlySyntax (with r next)
+unfolding OnlySyntax
+only_with (Ok a) next h k = k a
+only_with (Err f) next h k = h

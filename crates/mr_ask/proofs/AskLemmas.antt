@@ -4,6 +4,7 @@ use Rattle.std.specs.Prelude.{IsTrue, IfOk, Result, Ok, Err}
 use Rattle.std.specs.List.{list_all}
 use Rattle.mr_bytes.specs.Words.{fits}
 use Rattle.mr_bytes.specs.declared.ends.End.TheVariants.{Left, Right}
+use Rattle.mr_bytes.proofs.Both.{second}
 use Rattle.mr_arguments.specs.Names.{lowered, named}
 use Rattle.mr_cmd_string.specs.Arguments.{get, set, setex, psetex, strlen, getrange, mget, setnx, getset, getdel, mset, msetnx, append, setrange, step, incrby, decrby}
 use Rattle.mr_cmd_key.specs.Arguments.{del, unlink, exists, key_type, keys, scan, dbsize, rename, renamenx, clear, expire, ttl, pttl, expiretime, pexpiretime, persist}
@@ -15,7 +16,7 @@ use Rattle.mr_cmd_server.specs.Arguments.{ping, echo, select, quit, bgrewriteaof
 use Rattle.mr_ask.specs.Asks.{asked, asked_by, reading}
 use Rattle.mr_ask.specs.Carried.{AskFits}
 use Rattle.mr_ask.specs.Spelled.{SpellsNamed, Spells}
-use Rattle.mr_arguments.proofs.FitLemmas.{second, of_parts_fit}
+use Rattle.mr_arguments.proofs.FitLemmas.{of_parts_fit}
 use Rattle.mr_arguments.proofs.NameLemmas.{named_is}
 use Rattle.mr_ask.proofs.Carries.{of_kind_carries}
 use Rattle.mr_ask.proofs.TimeLemmas.{IsTimedAsk, reading_timed}

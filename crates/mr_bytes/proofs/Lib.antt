@@ -2,3 +2,4 @@ pub mod Numbers
 pub mod Windows
 pub mod Places
 pub mod Texts
+pub mod Both

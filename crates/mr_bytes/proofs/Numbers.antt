@@ -1,5 +1,5 @@
 -- Digits, and the numbers that they spell.
-use Rattle.std.proofs.Common.{◌≡◌, ◌≢◌, ℕ, suc, ℤ, pos, negsuc, ◌+◌, ◌-◌, ◌*◌, ◌<◌, ◌≤◌, ◌^◌, List, [], ◌∷◌, length, get_or, take, drop, decimal, Bool, true, false, ◌&&◌, cond, Option, Some, None, IsTrue, inl, inr, refl, sym, ap, subst, ◌∙◌, arith, rules, lit<, ne_eqb}
+use Rattle.std.proofs.Common.{◌≡◌, ◌≢◌, ℕ, suc, ℤ, pos, negsuc, ◌+◌, ◌-◌, ◌*◌, ◌<◌, ◌≤◌, ◌^◌, List, [], ◌∷◌, length, get_or, take, drop, decimal, true, false, ◌&&◌, cond, Option, Some, None, IsTrue, inl, inr, refl, sym, ap, subst, ◌∙◌, arith, rules, lit<, ne_eqb}
 use Rattle.std.specs.Prelude.{neg_ℤ, SomeIff, IfSome, IfNone, Result, Ok, Err}
 use Rattle.std.specs.Result.{OkIff, result_ok}
 use Rattle.std.proofs.Common.{FitsSigned, w64}
@@ -12,13 +12,15 @@ use Rattle.std.proofs.lemmas.List.{length-take-le, take_all}
 use Rattle.std.proofs.Math.Seq.{take-length}
 use Rattle.std.proofs.Math.Nat.{pow-le-pow_right}
 use Rattle.mr_bytes.specs.Number.{is_i64, value_of, number_of}
+use Rattle.mr_bytes.proofs.Both.{first, second}
 use Rattle.std.specs.Char.{digit_value, is_ascii_digit}
 use Rattle.std.specs.Str.Parse.{AllDigits, digits_value}
 use Rattle.std.proofs.lemmas.Bool.{cases_lt}
-use Rattle.std.proofs.lemmas.Bool.Decides.{nat_tests}
+use Rattle.std.proofs.lemmas.Bool.Decides.{nat_tests, Decides-int_eq}
 use Rattle.std.proofs.lemmas.Fmt.{decimal_is_IsNumeral, decimal_digit, first_decimal, length-decimal-le, decimal-digits_value, decimal_injective}
 use Rattle.std.proofs.lemmas.Int.Digits.{digits_more, digits_value_more, digits_value-lt}
 use Rattle.std.proofs.lemmas.Str.Parse.{numerals_by_value, tells_digits, digit_at}
+use Rattle.std.specs.Ordering.{int_eq}
 
 -- what is known of a text of digits as it is read
 pub record IsRead (text : List ℕ) (value count : ℕ) : Type 0 where
@@ -87,19 +89,23 @@ pub no_minus : (bs : List ℕ) → get_or bs 0 0 ≢ 45 → ((n : ℕ) → n < 2
 no_minus bs front none (pos k) fits same = none k (ltb-true _ _ fits) same
 no_minus bs front none (negsuc k) fits same = front (ap (λ cs. get_or cs 0 0) same)
 
-pub first : (a b : Bool) → a && b ≡ true → a ≡ true
-first true b p = refl
-first false b p = cc
-
-pub second : (a b : Bool) → a && b ≡ true → b ≡ true
-second true b p = p
-second false b p = cc
-
 pub same_bytes : (xs ys : List ℕ) → bytes_eq xs ys ≡ true → xs ≡ ys
 same_bytes xs ys h = search (rules, bytes_eq-Decides)
 
 pub equal_bytes : (xs : List ℕ) → bytes_eq xs xs ≡ true
 equal_bytes xs = search (rules, bytes_eq-Decides)
+
+pub bytes_agree : (xs ys : List ℕ) → xs ≡ ys → bytes_eq xs ys ≡ true
+bytes_agree xs ys h = search (rules, bytes_eq-Decides)
+
+pub same_number : (m n : ℤ) → int_eq m n ≡ true → m ≡ n
+same_number m n h = search (rules, Decides-int_eq)
+
+pub is_i64-fits : (n : ℤ) → FitsSigned w64 n → is_i64 n ≡ true
+is_i64-fits n h = lt-ltb _ _ h.sfits
+
+pub is_i64-pos : (n : ℕ) → n < 2 ^ 63 → is_i64 (pos n) ≡ true
+is_i64-pos n h = lt-ltb n (2 ^ 63) h
 
 -- what a number's own text says
 value_of-signed_decimal : (n : ℤ) → is_i64 n ≡ true → value_of (signed_decimal n) ≡ n

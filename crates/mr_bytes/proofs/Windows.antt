@@ -30,7 +30,7 @@ no_window a b n first end f e le =
     let shown : from_to (pos first) last ≡ None = rw below refl in
     sym shown ∙ ap (λ x. from_to x last) f
 
-natural : (z : ℤ) → pos 0 ≤ℤ z → pos (unsigned_abs z) ≡ z
+pub natural : (z : ℤ) → pos 0 ≤ℤ z → pos (unsigned_abs z) ≡ z
 natural (pos n) h = refl
 natural (negsuc n) h = absurd (omega (arith, ints))
 

@@ -5,6 +5,7 @@ use Rattle.std.specs.Fmt.{signed_decimal}
 use Rattle.std.specs.List.{AllByRecursion}
 use Rattle.std.specs.FinMap.{empty, get, insert, remove, len, entries, keys, contains_key, empty_of_len, get-empty, get-insert, get-remove, len-insert, len-remove}
 use Rattle.std.proofs.lemmas.Cmp.{nat_list_cmp_total}
+use Rattle.mr_data.proofs.Entries.{AreApart, entries_apart}
 use Rattle.mr_map.specs.Bytes.{Bytes, bytes_cmp}
 use Rattle.mr_bytes.specs.Number.{is_i64}
 use Rattle.mr_resp.specs.Replies as reply
@@ -12,9 +13,10 @@ use Rattle.mr_resp.specs.ReplyView.{trees_of}
 use Rattle.mr_keyspace.specs.Collections.{with_fields, without_fields, with_members}
 use Rattle.mr_keyspace.proofs.Maps.{got}
 use Rattle.mr_cmd_shared.specs.Taken.{is_key}
-use Rattle.mr_cmd_hash.specs.Hashes.{Hash, count_reply, value_reply, hget, last_values, count_new, set_pairs, unchanged, overflow, number_at, increase_from, removed}
+use Rattle.mr_cmd_shared.specs.Answered.{overflow}
+use Rattle.mr_cmd_hash.specs.Hashes.{Hash, count_reply, value_reply, hget, last_values, count_new, set_pairs, unchanged, number_at, increase_from, removed}
 use Rattle.mr_cmd_hash.specs.Laws.{SetCountsNewFields, SetIsRead, RemoveCountsFields, IncreaseIsRead, HMGetIsHGetOfEach}
-use Rattle.mr_cmd_hash.proofs.Fields.{Pair, AreApart, entries_apart, with_entries}
+use Rattle.mr_cmd_hash.proofs.Fields.{Pair, with_entries}
 use Rattle.mr_cmd_hash.proofs.Removed.{NamesApart, names_apart, with_names}
 
 -- ---- HSET

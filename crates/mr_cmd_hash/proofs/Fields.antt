@@ -1,21 +1,17 @@
 -- What is left of fields that get values one after another.
-use Rattle.std.proofs.Common.{ℕ, ◌≡◌, List, [], ◌∷◌, Bool, true, false, ◌&&◌, not, cond, Option, Some, None, refl, sym, ◌∙◌, ap, rules, T}
+use Rattle.std.proofs.Common.{◌≡◌, List, [], ◌∷◌, Bool, true, false, not, cond, Option, Some, None, refl, sym, ◌∙◌, ap}
 use Rattle.std.specs.Prelude.{filter}
 use Rattle.std.specs.List.{AllByRecursion}
-use Rattle.std.specs.Str.{bytes_eq}
-use Rattle.std.specs.Ordering.{is_eq, is_lt, ordering_reverse}
-use Rattle.std.specs.declared.cmp.Ordering.{Ordering}
-use Rattle.std.specs.declared.cmp.Ordering.TheVariants.{Less, Equal, Greater}
-use Rattle.std.specs.FinMap.{empty, get, insert, entries, find, is_sorted, entries_sorted, get-entries, get-empty, get-insert, same_map}
-use Rattle.std.specs.FinMap.Entries.{below_all}
+use Rattle.std.specs.FinMap.{empty, get, insert, entries, find, get-entries, get-empty, get-insert, same_map}
 use Rattle.std.proofs.lemmas.Cmp.{nat_list_cmp_total}
 use Rattle.std.proofs.lemmas.Map.Lookups.{exact_bytes}
-use Rattle.std.proofs.lemmas.Slice.Eq.{bytes_eq-Decides}
+use Rattle.mr_data.proofs.Entries.{all_map, AreApart, entries_apart, own_entries}
+use Rattle.mr_bytes.proofs.Numbers.{same_bytes, equal_bytes}
 use Rattle.mr_map.specs.Bytes.{Bytes, bytes_cmp}
 use Rattle.mr_keyspace.specs.Collections.{with_fields}
 use Rattle.mr_keyspace.proofs.Maps.{insert_same, same_key}
 use Rattle.mr_cmd_shared.specs.Taken.{is_key}
-use Rattle.mr_keyspace.proofs.Puts.{is_key_itself, is_key_symm}
+use Rattle.mr_keyspace.proofs.Puts.{is_key_symm}
 use Rattle.mr_cmd_hash.specs.Hashes.{Hash, last_values, is_value, changed}
 
 abbrev pub Pair : Type 0
@@ -53,34 +49,6 @@ get_last : (ps : List Pair) (q : Bytes) → get (last_values ps) q ≡ last ps q
 get_last ps q = get_with ps empty q ∙ ap (or_else (last ps q)) (get-empty bytes_cmp q) ∙ or_none (last ps q)
 
 -- ---- pairs whose fields are apart
-abbrev pub AreApart : List Pair → Type 0
-AreApart [] = Unit {0}
-AreApart (e ∷ es) = AllByRecursion (λ (x : Pair). is_key x.0 e.0 ≡ false) es × AreApart es
-
-pub left : (a b : Bool) → T (a && b) → T a
-left true b h = tt
-left false b h = absurd h
-
-pub right : (a b : Bool) → T (a && b) → T b
-right true b h = h
-right false b h = absurd h
-
-pub turned : (r : Ordering) → T (is_lt r) → is_eq (ordering_reverse r) ≡ false
-turned Less h = refl
-turned Equal h = absurd h
-turned Greater h = absurd h
-
-below_apart : (k : Bytes) (es : List Pair) → T (below_all bytes_cmp k es) → AllByRecursion (λ (x : Pair). is_key x.0 k ≡ false) es
-below_apart k [] h = tt
-below_apart k (e ∷ es) h = (ap is_eq (nat_list_cmp_total.antisymm e.0 k) ∙ turned (bytes_cmp k e.0) (left _ _ h), below_apart k es (right (is_lt (bytes_cmp k e.0)) _ h))
-
-sorted_apart : (es : List Pair) → T (is_sorted bytes_cmp es) → AreApart es
-sorted_apart [] h = tt
-sorted_apart (e ∷ es) h = (below_apart e.0 es (left _ _ h), sorted_apart es (right (below_all bytes_cmp e.0 es) _ h))
-
-pub entries_apart : (h : Hash) → AreApart (entries h)
-entries_apart h = sorted_apart (entries h) (entries_sorted h)
-
 missing : (es : List Pair) (k : Bytes) → AllByRecursion (λ (x : Pair). is_key x.0 k ≡ false) es → last es k ≡ None
 unfolding last or_else
 missing [] k h = refl
@@ -102,29 +70,7 @@ pub with_entries : (ps : List Pair) (h : Hash) → with_fields (entries (last_va
 with_entries ps h = same_map nat_list_cmp_total exact_bytes _ _ (λ q.
     get_with (entries (last_values ps)) h q ∙ ap (λ o. or_else o (get h q)) (last_entries (last_values ps) q ∙ get_last ps q) ∙ sym (get_with ps h q))
 
--- each entry is what its field has
-has_own : (e : Pair) (es xs : List Pair) → AllByRecursion (λ (x : Pair). is_key x.0 e.0 ≡ false) xs → AllByRecursion (λ (x : Pair). find bytes_cmp x.0 es ≡ Some x.1) xs → AllByRecursion (λ (x : Pair). find bytes_cmp x.0 (e ∷ es) ≡ Some x.1) xs
-has_own e es [] a h = tt
-has_own e es (x ∷ xs) a h = (ap (λ b. cond b (Some e.1) (find bytes_cmp x.0 es)) a.0 ∙ h.0, has_own e es xs a.1 h.1)
-
-own : (es : List Pair) → AreApart es → AllByRecursion (λ (x : Pair). find bytes_cmp x.0 es ≡ Some x.1) es
-own [] a = tt
-own (e ∷ es) a = (ap (λ b. cond b (Some e.1) (find bytes_cmp e.0 es)) (is_key_itself e.0), has_own e es es a.0 (own es a.1))
-
-pub all_map : {X : Type 0} (P Q : X → Type 0) → ((x : X) → P x → Q x) → (xs : List X) → AllByRecursion P xs → AllByRecursion Q xs
-all_map P Q f [] h = tt
-all_map P Q f (x ∷ xs) h = (f x h.0, all_map P Q f xs h.1)
-
-pub own_entries : (h : Hash) → AllByRecursion (λ (x : Pair). get h x.0 ≡ Some x.1) (entries h)
-own_entries h = all_map _ _ (λ x is. get-entries h x.0 ∙ is) (entries h) (own (entries h) (entries_apart h))
-
 -- ---- the fields that change
-same_bytes : (xs ys : List ℕ) → bytes_eq xs ys ≡ true → xs ≡ ys
-same_bytes xs ys h = search (rules, bytes_eq-Decides)
-
-bytes_itself : (xs : List ℕ) → bytes_eq xs xs ≡ true
-bytes_itself xs = search (rules, bytes_eq-Decides)
-
 value_is : (v : Bytes) (o : Option Bytes) → is_value v o ≡ true → o ≡ Some v
 value_is v None h = cc
 value_is v (Some w) h = ap Some (same_bytes w v h)
@@ -154,7 +100,7 @@ with_changed ps h = sym (skipped (entries (last_values ps)) h h (entries_apart (
 
 none_left : (h : Hash) (es : List Pair) → AllByRecursion (λ (x : Pair). get h x.0 ≡ Some x.1) es → filter (λ p. not (holds h p)) es ≡ []
 none_left h [] a = refl
-none_left h (e ∷ es) a = ap (λ b. cond (not b) (e ∷ filter (λ p. not (holds h p)) es) (filter (λ p. not (holds h p)) es)) (ap (is_value e.1) a.0 ∙ bytes_itself e.1) ∙ none_left h es a.1
+none_left h (e ∷ es) a = ap (λ b. cond (not b) (e ∷ filter (λ p. not (holds h p)) es) (filter (λ p. not (holds h p)) es)) (ap (is_value e.1) a.0 ∙ equal_bytes e.1) ∙ none_left h es a.1
 
 -- a field's last value is what it has then
 set_value : (ps : List Pair) (h : Hash) (f v : Bytes) → get (last_values ps) f ≡ Some v → get (with_fields ps h) f ≡ Some v

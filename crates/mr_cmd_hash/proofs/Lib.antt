@@ -1,5 +1,4 @@
 pub mod ArgumentLemmas
-pub mod GroupLemmas
 pub mod Pushing
 pub mod Single
 pub mod Fields

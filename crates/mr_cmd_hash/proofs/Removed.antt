@@ -7,14 +7,16 @@ use Rattle.std.specs.FinMap.{empty, get, insert, remove, keys, contains_key, con
 use Rattle.std.specs.FinMap.Entries.{below_all}
 use Rattle.std.proofs.lemmas.Cmp.{nat_list_cmp_total}
 use Rattle.std.proofs.lemmas.Map.Lookups.{exact_bytes}
+use Rattle.std.proofs.Math.Bool.{or-false}
+use Rattle.mr_data.proofs.Entries.{turned}
 use Rattle.mr_map.specs.Bytes.{Bytes, ByteMap, bytes_cmp}
+use Rattle.mr_map.proofs.Conditions.{first_holds, second_holds, or_next}
 use Rattle.mr_bytes.specs.Words.{fits}
 use Rattle.mr_keyspace.specs.Collections.{without_fields, with_members}
 use Rattle.mr_cmd_shared.specs.Taken.{has, is_key}
 use Rattle.mr_keyspace.proofs.Maps.{same_key}
 use Rattle.mr_keyspace.proofs.Puts.{is_key_itself}
 use Rattle.mr_cmd_hash.specs.Hashes.{Hash, removed}
-use Rattle.mr_cmd_hash.proofs.Fields.{turned, left as is_below, right as are_sorted}
 
 abbrev Names : Type 0
 Names = ByteMap (Unit {0})
@@ -29,15 +31,6 @@ get_without [] h q = refl
 get_without (f ∷ fs) h q = get_without fs (remove h f) q ∙ ap (cond (has fs q) None) (get-remove nat_list_cmp_total h f q) ∙ removed_next (is_key q f) (has fs q) (get h q)
 
 -- ---- the fields that are named
-or_next : (a b c : Bool) → (b || (a || c)) ≡ ((a || b) || c)
-or_next true true c = refl
-or_next true false c = refl
-or_next false b c = refl
-
-or_false : (b : Bool) → (b || false) ≡ b
-or_false true = refl
-or_false false = refl
-
 some_put : {X : Type 0} (b : Bool) (v : X) (o : Option X) → is_some (cond b (Some v) o) ≡ (b || is_some o)
 some_put true v o = refl
 some_put false v o = refl
@@ -47,7 +40,7 @@ contains_with [] s q = refl
 contains_with (x ∷ xs) s q = contains_with xs (insert s x tt) q ∙ ap (λ b. has xs q || b) (ap is_some (get-insert nat_list_cmp_total s x tt q) ∙ some_put (is_key q x) tt (get s q)) ∙ or_next (is_key q x) (has xs q) (contains_key s q)
 
 has_names : (fs : List Bytes) (q : Bytes) → has (keys (with_members fs empty)) q ≡ has fs q
-has_names fs q = sym (contains_key-keys (with_members fs empty) q) ∙ contains_with fs empty q ∙ ap (λ b. has fs q || b) (ap is_some (get-empty bytes_cmp q)) ∙ or_false (has fs q)
+has_names fs q = sym (contains_key-keys (with_members fs empty) q) ∙ contains_with fs empty q ∙ ap (λ b. has fs q || b) (ap is_some (get-empty bytes_cmp q)) ∙ or-false (has fs q)
 
 -- those of them that are there
 has_filter : (p : Bytes → Bool) (xs : List Bytes) (q : Bytes) → has (filter p xs) q ≡ (has xs q && p q)
@@ -135,11 +128,11 @@ NamesApart (x ∷ xs) = AllByRecursion (λ (y : Bytes). is_key y x ≡ false) xs
 
 below_names : {X : Type 0} (k : Bytes) (es : List (Bytes × X)) → T (below_all bytes_cmp k es) → AllByRecursion (λ (y : Bytes). is_key y k ≡ false) (map (λ e. e.0) es)
 below_names k [] h = tt
-below_names k (e ∷ es) h = (ap is_eq (nat_list_cmp_total.antisymm e.0 k) ∙ turned (bytes_cmp k e.0) (is_below _ _ h), below_names k es (are_sorted (is_lt (bytes_cmp k e.0)) _ h))
+below_names k (e ∷ es) h = (ap is_eq (nat_list_cmp_total.antisymm e.0 k) ∙ turned (bytes_cmp k e.0) (first_holds _ _ h), below_names k es (second_holds (is_lt (bytes_cmp k e.0)) _ h))
 
 sorted_names : {X : Type 0} (es : List (Bytes × X)) → T (is_sorted bytes_cmp es) → NamesApart (map (λ e. e.0) es)
 sorted_names [] h = tt
-sorted_names (e ∷ es) h = (below_names e.0 es (is_below _ _ h), sorted_names es (are_sorted (below_all bytes_cmp e.0 es) _ h))
+sorted_names (e ∷ es) h = (below_names e.0 es (first_holds _ _ h), sorted_names es (second_holds (below_all bytes_cmp e.0 es) _ h))
 
 pub names_apart : (s : Names) → NamesApart (keys s)
 names_apart s = sorted_names (entries s) (entries_sorted s)

@@ -6,15 +6,15 @@ use Rattle.std.specs.Borrow.{Bor}
 use Rattle.std.specs.Fmt.{signed_decimal}
 use Rattle.std.specs.FinMap.{empty, get, insert, entries, contains_key, put, entries-insert, len-entries, len-empty}
 use Rattle.std.proofs.lemmas.Cmp.{nat_list_cmp_total}
-use Rattle.std.proofs.lemmas.Bool.{lt-ltb}
+use Rattle.mr_cmd_shared.specs.Answered.{overflow}
 use Rattle.mr_map.specs.Bytes.{Bytes, bytes_cmp}
-use Rattle.mr_bytes.specs.Number.{is_i64}
+use Rattle.mr_bytes.proofs.Numbers.{is_i64-fits}
 use Rattle.mr_resp.specs.Replies as reply
 use Rattle.mr_resp.specs.Replies.{Tree}
 use Rattle.mr_effect.specs.declared.effect.Effect.{Effect}
 use Rattle.mr_effect.specs.declared.effect.Effect.TheVariants as effect
 use Rattle.mr_keyspace.specs.Cuts.{cut}
-use Rattle.mr_cmd_hash.specs.Hashes.{Hash, is_value, changed, set_pairs, unchanged, count_reply, hsetnx, number_at, increase_from, hincrby, overflow, fields_reply, count_new, hset, removed, hdel}
+use Rattle.mr_cmd_hash.specs.Hashes.{Hash, is_value, changed, set_pairs, unchanged, count_reply, hsetnx, number_at, increase_from, hincrby, fields_reply, count_new, hset, removed, hdel}
 use Rattle.mr_cmd_hash.specs.declared.hash_ask.FieldsReply.{FieldsReply}
 use Rattle.mr_cmd_hash.specs.Commands.{Makes}
 
@@ -50,9 +50,6 @@ pub new_set : (k f v : Bytes) (r : Tree) (h : Hash) (es es2 : List Effect) → c
 new_set k f v r h es es2 there replied put =
     subst (λ (b : Bool). Makes (if b then unchanged (count_reply 0) h else set_pairs k (count_reply 1) ((f, v) ∷ []) h) r es es2) (sym there)
     (one_set k f v (count_reply 1) r h None es es2 (absent (get h f) there) replied put)
-
-pub is_i64-fits : (n : ℤ) → FitsSigned w64 n → is_i64 n ≡ true
-is_i64-fits n h = lt-ltb _ _ h.sfits
 
 -- HINCRBY of a number whose sum fits
 pub sum_set : (k f : Bytes) (by n sum : ℤ) (text : Bytes) (r : Tree) (h : Hash) (o : Option Bytes) (es es2 : List Effect) → o ≡ get h f → number_at o ≡ Some n → FitsSigned w64 (n +ℤ by) → sum ≡ n +ℤ by → text ≡ signed_decimal sum → r ≡ reply.int sum → es2 ≡ es ++ map (effect.SetFields k) (cut (if is_value text o then [] else (f, text) ∷ [])) → Makes (hincrby k f by h) r es es2

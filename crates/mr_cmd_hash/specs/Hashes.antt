@@ -17,7 +17,8 @@ use Rattle.mr_cmd_hash.specs.declared.hash_ask.FieldsReply.TheVariants as answer
 use Rattle.mr_cmd_hash.specs.declared.hash_ask.HashPart.{HashPart}
 use Rattle.mr_cmd_hash.specs.declared.hash_ask.HashPart.TheVariants as part
 use Rattle.mr_keyspace.specs.Cuts.{cut}
-use Rattle.mr_cmd_shared.specs.Answered.{done}
+pub use Rattle.mr_keyspace.specs.Collections.{last_values}
+use Rattle.mr_cmd_shared.specs.Answered.{done, overflow}
 use Rattle.mr_cmd_shared.specs.Collections.{Change}
 
 abbrev pub Hash : Type 0
@@ -76,15 +77,11 @@ hstrlen f h = unchanged (count_reply (length_of (get h f))) h
 
 -- ---- fields that get values
 
--- the fields that pairs name, each with its last value
-abbrev pub last_values : List (Bytes × Bytes) → Hash
-last_values pairs = with_fields pairs empty
-
 abbrev pub is_value : Bytes → Option Bytes → Bool
 is_value v None = false
 is_value v (Some w) = bytes_eq w v
 
--- .. without those that hold this value already, in byte order
+-- the fields that pairs name, each with its last value, without those that hold it already, in byte order
 abbrev pub changed : List (Bytes × Bytes) → Hash → List (Bytes × Bytes)
 changed pairs h = filter (λ p. not (is_value p.1 (get h p.0))) (entries (last_values pairs))
 
@@ -114,9 +111,6 @@ hsetnx k f v h = if contains_key h f then unchanged (count_reply 0) h else set_p
 
 abbrev pub no_integer : Tree
 no_integer = reply.error (codes "ERR hash value is not an integer")
-
-abbrev pub overflow : Tree
-overflow = reply.error (codes "ERR increment or decrement would overflow")
 
 -- a field that isn't there counts as 0
 abbrev pub number_at : Option Bytes → Option ℤ

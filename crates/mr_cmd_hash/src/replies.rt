@@ -1,7 +1,8 @@
 // Replies that several commands share.
 ghost use Rattle.std.specs.Prelude.{◌≡◌};
 ghost use Rattle.mr_resp.specs.ReplyView.{view};
-ghost use Rattle.mr_cmd_hash.specs.Hashes.{no_integer, overflow};
+ghost use Rattle.mr_cmd_shared.specs.Answered.{overflow};
+ghost use Rattle.mr_cmd_hash.specs.Hashes.{no_integer};
 
 use mr_resp::Reply;
 use std::borrow::CowSlice;

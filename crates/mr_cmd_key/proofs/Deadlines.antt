@@ -1,12 +1,14 @@
 -- Commands on deadlines: their effects are faithful.
-use Rattle.std.proofs.Common.{◌≡◌, ℤ, [], ◌∷◌, Bool, true, false, ◌&&◌, Option, Some, None, refl, sym, ◌∙◌, ap, arith, rules}
+use Rattle.std.proofs.Common.{◌≡◌, ℤ, [], ◌∷◌, true, false, Option, Some, None, refl, sym, ◌∙◌, ap, arith, rules}
 use Rattle.std.specs.Prelude.{IsTrue, int_le, if◌then◌else◌, is_some, IfSome}
 use Rattle.std.specs.Option.{option_map, option_and_then}
 use Rattle.std.specs.Ordering.{int_eq}
 use Rattle.std.specs.FinMap.{get}
 use Rattle.std.proofs.lemmas.Bool.Decides.{Decides-int_eq}
+use Rattle.std.proofs.lemmas.Bool.{and_from}
 use Rattle.mr_map.specs.Bytes.{Bytes}
 use Rattle.mr_bytes.specs.Words.{fits}
+use Rattle.mr_bytes.proofs.Numbers.{same_number}
 use Rattle.mr_effect.specs.Effects.{is_deadline}
 use Rattle.mr_effect.specs.declared.effect.Effect.TheVariants as effect
 use Rattle.mr_effect.proofs.Texts.{short_effect}
@@ -21,9 +23,6 @@ use Rattle.mr_cmd_key.specs.declared.key_ask.ExpireCondition.{ExpireCondition}
 use Rattle.mr_cmd_key.specs.Expiring.{allows, with_deadline, is_until, lasting, ended, expire_answer, endless, persist_answer, CanBeNamed}
 
 -- ---- a deadline that a key has already
-same_number : (m n : ℤ) → int_eq m n ≡ true → m ≡ n
-same_number m n h = search (rules, Decides-int_eq)
-
 number_itself : (n : ℤ) → int_eq n n ≡ true
 number_itself n = search (rules, Decides-int_eq)
 
@@ -36,10 +35,6 @@ until_same d e h = ap (λ (o : Option ℤ). with_deadline o e) (until_is d e.dea
 
 is_same : (d : ℤ) (e f : Entry) → with_deadline (Some d) e ≡ f → is_until d f.deadline ≡ true
 is_same d e f h = ap (λ (x : Entry). is_until d x.deadline) (sym h) ∙ number_itself d
-
-both : (a b : Bool) → a ≡ true → b ≡ true → a && b ≡ true
-both true b h i = i
-both false b h i = cc
 
 of_some : (e f : Entry) → Some e ≡ Some f → e ≡ f
 of_some e f h = cc
@@ -58,7 +53,7 @@ module _ (k : Bytes) (m : Dataset) (fit : fits k ≡ true) (e : Entry) (is : get
   lasting_does : (d : ℤ) → IsTrue (is_deadline d) → apply_all (effect.Expire k d ∷ []) m ≡ Some (put_at m k (Some (with_deadline (Some d) e)))
   unfolding apply change
   lasting_does d named =
-      ap (λ b. option_and_then (apply_all []) (if b then option_map (put_at m k) (expire_step d (get m k)) else None)) (both _ _ named fit)
+      ap (λ b. option_and_then (apply_all []) (if b then option_map (put_at m k) (expire_step d (get m k)) else None)) (and_from _ _ named fit)
       ∙ ap (λ o. option_and_then (apply_all []) (option_map (put_at m k) (expire_step d o))) is
 
   lasting_faithful : (d : ℤ) → IsTrue (is_deadline d) → IsFaithfulAnswer (lasting k d e) k m

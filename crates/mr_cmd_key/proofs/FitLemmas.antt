@@ -3,11 +3,12 @@ use Rattle.std.proofs.Common.{ℕ, ◌≡◌, List, ◌∷◌, ◌++◌, map, Op
 use Rattle.std.specs.Prelude.{IsTrue}
 use Rattle.std.specs.List.{list_all, AllByRecursion}
 use Rattle.mr_bytes.specs.Words.{fits}
+use Rattle.mr_bytes.proofs.Both.{first}
 use Rattle.mr_cmd_key.specs.Carried.{key_words}
 use Rattle.mr_arguments.specs.Spelling.{Part, Word, Number, in_a_row}
 use Rattle.mr_arguments.specs.Expiry.{number_said}
 use Rattle.mr_cmd_key.specs.Spelled.{cursor_part, expire_part, scan_option, AreOfKeys}
-use Rattle.mr_arguments.proofs.FitLemmas.{carried, carried-words, first, both, parts_fit, OptionFits, others_fit}
+use Rattle.mr_arguments.proofs.FitLemmas.{carried, carried-words, both, parts_fit, OptionFits, others_fit}
 use Rattle.mr_cmd_key.specs.declared.options.ScanOption.TheVariants as scans
 use Rattle.mr_cmd_key.specs.declared.key_ask.Cursor.{Cursor}
 use Rattle.mr_cmd_key.specs.declared.key_ask.Cursor.TheVariants.{Start, Behind}

@@ -1,10 +1,11 @@
 -- The effects of commands on keys are faithful.
-use Rattle.std.proofs.Common.{◌≡◌, List, [], ◌∷◌, Bool, true, false, ◌&&◌, Some, None, refl, sym, ◌∙◌, ap}
+use Rattle.std.proofs.Common.{◌≡◌, List, [], ◌∷◌, Some, None, refl, sym, ◌∙◌, ap}
 use Rattle.std.specs.Prelude.{IsTrue, is_some, ℤ, pos}
 use Rattle.std.specs.List.{list_all}
 use Rattle.std.specs.FinMap.{len}
 use Rattle.mr_map.specs.Bytes.{Bytes}
 use Rattle.mr_bytes.specs.Words.{fits}
+use Rattle.mr_bytes.proofs.Both.{first}
 use Rattle.mr_resp.specs.Replies as reply
 use Rattle.mr_keyspace.specs.Dataset.{Dataset}
 use Rattle.mr_cmd_key.specs.Carried.{key_words}
@@ -38,10 +39,6 @@ deleted_faithful ks m h = record {
 }
 
 -- ---- each command
-first : (a b : Bool) → a && b ≡ true → a ≡ true
-first true b h = refl
-first false b h = cc
-
 pub keys_faithful : (c : KeyAsk) (now : ℤ) (m : Dataset) → IsTrue (list_all fits (key_words c)) → HasDeadline c now → IsLawful (command c now) now m
 keys_faithful (ask.Del ks) now m h named = faithful (on_keys ks (deleted ks)) now m h (deleted_faithful ks _ h)
 keys_faithful (ask.Unlink ks) now m h named = faithful (on_keys ks (deleted ks)) now m h (deleted_faithful ks _ h)

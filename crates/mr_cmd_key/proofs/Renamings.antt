@@ -1,5 +1,5 @@
 -- Commands on whole entries: two keys, and the law of faithful effects.
-use Rattle.std.proofs.Common.{rules, ◌≡◌, ℕ, List, [], ◌∷◌, ◌++◌, append_assoc, Bool, true, false, ◌&&◌, cond, Option, Some, None, refl, sym, ◌∙◌, ap, subst, arith}
+use Rattle.std.proofs.Common.{◌≡◌, List, [], ◌∷◌, ◌++◌, append_assoc, Bool, true, false, ◌&&◌, cond, Option, Some, None, refl, sym, ◌∙◌, ap, subst, arith}
 use Rattle.std.specs.Prelude.{IsTrue, ℤ, ◌||◌, ◌==◌, is_some, pos, if◌then◌else◌}
 use Rattle.std.specs.List.{list_all}
 use Rattle.std.specs.Option.{option_map, option_and_then}
@@ -8,9 +8,9 @@ use Rattle.std.specs.Str.{bytes_eq}
 use Rattle.std.proofs.lemmas.Bool.{eqb-true}
 use Rattle.std.proofs.lemmas.Cmp.{nat_list_cmp_total}
 use Rattle.std.proofs.lemmas.List.{map-append}
-use Rattle.std.proofs.lemmas.Slice.Eq.{bytes_eq-Decides}
 use Rattle.mr_map.specs.Bytes.{Bytes, bytes_cmp}
 use Rattle.mr_bytes.specs.Words.{fits}
+use Rattle.mr_bytes.proofs.Numbers.{same_bytes}
 use Rattle.mr_resp.specs.Replies as reply
 use Rattle.mr_resp.specs.Replies.{Tree}
 use Rattle.mr_keyspace.specs.Dataset.{Dataset}
@@ -26,31 +26,12 @@ use Rattle.mr_cmd_shared.specs.Keys.{expired, purged, dels, is_stored}
 use Rattle.mr_cmd_shared.specs.Answered.{done}
 use Rattle.mr_cmd_shared.specs.Outcomes.{Outcome, answered}
 use Rattle.mr_cmd_shared.specs.Commands.{Command, on_keys, on_none, before, Plans}
-use Rattle.mr_keyspace.proofs.Maps.{same_key}
 use Rattle.mr_keyspace.proofs.Puts.{is_key_itself, get_remove, removed}
 use Rattle.mr_cmd_shared.proofs.KeyLists.{get_purged}
 use Rattle.mr_cmd_shared.proofs.Laws.{faithful, IsFaithfulAt, answered_faithful, IsLawful, one_short}
+use Rattle.mr_cmd_shared.proofs.TakenLemmas.{keys_apart, apart_turned}
 use Rattle.mr_cmd_key.specs.Renaming.{no_key, carried, carried_if, renamed, renamed_nx, cleared, Gives}
 use Rattle.mr_effect.proofs.Texts.{short_effect}
-
-pub same_bytes : (xs ys : List ℕ) → bytes_eq xs ys ≡ true → xs ≡ ys
-same_bytes xs ys h = search (rules, bytes_eq-Decides)
-
-bytes_itself : (xs ys : List ℕ) → xs ≡ ys → bytes_eq xs ys ≡ true
-bytes_itself xs ys h = search (rules, bytes_eq-Decides)
-
--- two keys that aren't one
-apart : (q k : Bytes) → bytes_eq q k ≡ false → is_key q k ≡ false
-apart q k h = elim (is_key q k) as (λ b. is_key q k ≡ b → b ≡ false) [
-  | true ↦ λ t. let wrong : true ≡ false = sym (bytes_itself q k (same_key q k t)) ∙ h in cc
-  | false ↦ λ t. refl
-] refl
-
-turned : (q k : Bytes) → bytes_eq q k ≡ false → bytes_eq k q ≡ false
-turned q k h = elim (bytes_eq k q) as (λ b. bytes_eq k q ≡ b → b ≡ false) [
-  | true ↦ λ t. let wrong : true ≡ false = sym (bytes_itself q k (sym (same_bytes k q t))) ∙ h in cc
-  | false ↦ λ t. refl
-] refl
 
 -- ---- the law
 module _ (from to : Bytes) (m : Dataset) (fit : fits from && fits to ≡ true) where
@@ -63,7 +44,7 @@ module _ (from to : Bytes) (m : Dataset) (fit : fits from && fits to ≡ true) w
   -- the one key isn't there any more
   carry_changes : (e : Entry) → get m from ≡ Some e → bytes_eq from to ≡ false → insert (remove m from) to e ≡ m → ⊥
   carry_changes e is differ same =
-      let is_removed : get (insert (remove m from) to e) from ≡ None = get-insert nat_list_cmp_total (remove m from) to e from ∙ ap (λ b. cond b (Some e) (get (remove m from) from)) (apart from to differ) ∙ removed m from in
+      let is_removed : get (insert (remove m from) to e) from ≡ None = get-insert nat_list_cmp_total (remove m from) to e from ∙ ap (λ b. cond b (Some e) (get (remove m from) from)) (keys_apart from to differ) ∙ removed m from in
       let wrong : None ≡ Some e = sym is_removed ∙ ap (λ (n : Dataset). get n from) same ∙ is in
       cc
 
@@ -129,7 +110,7 @@ module _ (now : ℤ) (from to : Bytes) (m : Dataset) where
 
   expired_two : bytes_eq from to ≡ false → expired now (from ∷ to ∷ []) m ≡ expired now (from ∷ []) m ++ expired now (to ∷ []) m
   expired_two h =
-      ap (λ (o : Option Entry). go (is_stored now true (get m from)) (if is_stored now true o then to ∷ [] else []) (expired now (to ∷ []) m)) (get_remove m from to ∙ ap (λ b. cond b None (get m to)) (apart to from (turned from to h)))
+      ap (λ (o : Option Entry). go (is_stored now true (get m from)) (if is_stored now true o then to ∷ [] else []) (expired now (to ∷ []) m)) (get_remove m from to ∙ ap (λ b. cond b None (get m to)) (keys_apart to from (apart_turned from to h)))
       ∙ elim (is_stored now true (get m from)) as (λ b. go b (expired now (to ∷ []) m) (expired now (to ∷ []) m) ≡ go b [] [] ++ expired now (to ∷ []) m) [ true ↦ refl | false ↦ refl ]
 
   expired_one : bytes_eq from to ≡ true → expired now (from ∷ to ∷ []) m ≡ expired now (from ∷ []) m

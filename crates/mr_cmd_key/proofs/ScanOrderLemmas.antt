@@ -1,16 +1,15 @@
 -- Options of SCAN that stand side by side may change places.
 use Rattle.std.proofs.Common.{ℕ, ◌≡◌, List, [], ◌∷◌, ◌++◌, Bool, Some, None, refl, sym, ◌∙◌, ap}
-use Rattle.std.specs.Prelude.{if◌then◌else◌, Result, Ok, Err}
+use Rattle.std.specs.Prelude.{if◌then◌else◌}
 use Rattle.std.specs.Option.{is_some, ok_or}
 use Rattle.std.specs.Str.{bytes_eq}
 use Rattle.mr_arguments.specs.Names.{lowered}
 use Rattle.mr_arguments.specs.Parts.{with}
 use Rattle.mr_arguments.proofs.PairLemmas.{are_pairs-unpaired, paired-unpaired}
-use Rattle.mr_arguments.proofs.OrderLemmas.{exchanged, OnlySyntax, words_alike, two_alike, twice_refused, one_of_three, unless, only_found}
+use Rattle.mr_arguments.proofs.OrderLemmas.{exchanged, OnlySyntax, words_alike, two_alike, twice_refused, one_of_three, unless, only_found, only_with}
 use Rattle.mr_arguments.specs.Pairing.{paired, pairs_of, unpaired}
 use Rattle.mr_arguments.specs.Options.{added}
 use Rattle.mr_cmd_key.specs.Options.{scan_text, scan_option, no_scan_options, scan_also, scan_pair, scan_options}
-use Rattle.mr_arguments.specs.declared.fault.AskFault.{AskFault}
 use Rattle.mr_arguments.specs.declared.fault.AskFault.TheVariants.{Syntax}
 use Rattle.mr_cmd_key.specs.declared.options.ScanOption.{ScanOption}
 use Rattle.mr_cmd_key.specs.declared.options.ScanOption.TheVariants as scan
@@ -53,11 +52,6 @@ scan_in_any_order front back v w =
     ∙ sym (scan_of_pairs (front ++ w ∷ v ∷ back))
 
 -- ---- SCAN has no other fault
-only_with : {A B : Type 0} (r : Result A AskFault) (next : A → Result B AskFault) → OnlySyntax r → ((a : A) → OnlySyntax (next a)) → OnlySyntax (with r next)
-unfolding OnlySyntax
-only_with (Ok a) next h k = k a
-only_with (Err f) next h k = h
-
 pairs_only : (ps : List (List ℕ × List ℕ)) (s : ScanOptions) → OnlySyntax (added scan_pair s ps)
 unfolding OnlySyntax
 pairs_only [] s = tt

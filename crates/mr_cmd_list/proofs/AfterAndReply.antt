@@ -12,6 +12,7 @@ use Rattle.mr_bytes.specs.Window.{named_place, window_of, windowed}
 use Rattle.mr_bytes.specs.declared.ends.End.{End}
 use Rattle.mr_bytes.specs.declared.ends.End.TheVariants.{Left, Right}
 use Rattle.mr_bytes.proofs.Places.{from_front, past_end, from_end}
+use Rattle.mr_bytes.proofs.Numbers.{same_bytes}
 use Rattle.mr_resp.specs.Replies as reply
 use Rattle.mr_resp.specs.Replies.{Tree}
 use Rattle.mr_keyspace.specs.Collections.{put_item, pushed, popped, end_item}
@@ -31,7 +32,6 @@ use Rattle.mr_cmd_list.specs.Moves.{rotate_answer, with_rotated, carry, carry_fr
 use Rattle.mr_cmd_list.specs.Pops.{without_item}
 use Rattle.mr_cmd_list.specs.Pushes.{push_change}
 use Rattle.mr_cmd_list.specs.Telling.{llen_answer, lrange_answer, named_item, lindex_answer}
-use Rattle.mr_cmd_list.proofs.Sizes.{same_bytes}
 
 -- ---- what is answered of a list that was left
 some_entry : (d : Option ℤ) (y : Bytes) (ys : List Bytes) → entry_of lists d (y ∷ ys) ≡ Some (record { value = value.List (y ∷ ys); deadline = d })

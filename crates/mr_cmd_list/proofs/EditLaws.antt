@@ -13,6 +13,7 @@ use Rattle.mr_bytes.specs.Number.{is_i64}
 use Rattle.mr_value.specs.Lists.{count_of, without, without_first, without_last, without_all, removed_count}
 use Rattle.mr_bytes.specs.Window.{named_place, window_of}
 use Rattle.mr_bytes.specs.declared.ends.Side.{Side}
+use Rattle.mr_bytes.proofs.Numbers.{same_bytes, equal_bytes, is_i64-pos}
 use Rattle.mr_value.proofs.Removals.{length-without}
 use Rattle.mr_keyspace.specs.Collections.{is_place_of, is_part_of, place_beside}
 use Rattle.mr_keyspace.specs.Steps.{lists, held, set_item_step, insert_item_step, remove_items_step, trim_step, del_step}
@@ -22,7 +23,7 @@ use Rattle.mr_effect.specs.declared.effect.Effect.TheVariants as effect
 use Rattle.mr_data.proofs.Running.{IsStep}
 use Rattle.mr_cmd_shared.proofs.Changing.{IsFaithfulChange}
 use Rattle.mr_cmd_list.specs.Edits.{is_item, with_item, with_inserted, without_equal, is_whole, trimmed}
-use Rattle.mr_cmd_list.proofs.Sizes.{not_both, both, three, small, positive, none_of, same_bytes, bytes_itself, place_within, window_within}
+use Rattle.mr_cmd_list.proofs.Sizes.{not_both, both, three, positive, none_of, place_within, window_within}
 use Rattle.mr_cmd_list.proofs.OneEffect.{no_effect, by_step, one_effect, unless_same}
 use Rattle.mr_effect.proofs.Texts.{short_effect}
 
@@ -36,11 +37,11 @@ got_back item xs place below = slice_get-get_or (slice_set xs place item) place 
 
 another_item : (item : Bytes) (xs : List Bytes) (place : ℕ) → place < length xs → is_item item (slice_get xs place) ≡ false → slice_set xs place item ≢ xs
 another_item item xs place below other h =
-    not_both (ap (λ (ys : List Bytes). is_item item (slice_get ys place)) (sym h) ∙ ap (is_item item) (got_back item xs place below) ∙ bytes_itself item) other
+    not_both (ap (λ (ys : List Bytes). is_item item (slice_get ys place)) (sym h) ∙ ap (is_item item) (got_back item xs place below) ∙ equal_bytes item) other
 
 set_is_step : (k : Bytes) (place : ℕ) (item : Bytes) → IsTrue (fits k) → IsTrue (fits item) → place < 2 ^ 63 → IsStep k (effect.SetItem k (pos place) item) (set_item_step (pos place) item)
 unfolding change
-set_is_step k place item named fit short = record { possible = both _ _ (both _ _ (small place short) (le-leb 0 place (omega arith))) (both (fits k) (fits item) named fit); short = short_effect (effect.SetItem k (pos place) item) (omega arith); is = λ m. refl }
+set_is_step k place item named fit short = record { possible = both _ _ (both _ _ (is_i64-pos place short) (le-leb 0 place (omega arith))) (both (fits k) (fits item) named fit); short = short_effect (effect.SetItem k (pos place) item) (omega arith); is = λ m. refl }
 
 is_place : (place len : ℕ) → place < len → is_place_of (pos place) len ≡ true
 is_place place len h = both _ _ (le-leb 0 place (omega arith)) (lt-ltb place len h)
@@ -133,7 +134,7 @@ module _ (k : Bytes) (x : List Bytes) (o : Option Entry) (named : IsTrue (fits k
 -- ---- a part
 trim_is_step : (k : Bytes) (first last : ℕ) → IsTrue (fits k) → first < 2 ^ 63 → last < 2 ^ 63 → IsStep k (effect.Trim k (pos first) (pos last)) (trim_step (pos first) (pos last))
 unfolding change
-trim_is_step k first last named low high = record { possible = both _ _ (both (is_i64 (pos first)) (is_i64 (pos last)) (small first low) (small last high)) named; short = short_effect (effect.Trim k (pos first) (pos last)) (omega arith); is = λ m. refl }
+trim_is_step k first last named low high = record { possible = both _ _ (both (is_i64 (pos first)) (is_i64 (pos last)) (is_i64-pos first low) (is_i64-pos last high)) named; short = short_effect (effect.Trim k (pos first) (pos last)) (omega arith); is = λ m. refl }
 
 del_is_step : (k : Bytes) → IsTrue (fits k) → IsStep k (effect.Del k) del_step
 unfolding change

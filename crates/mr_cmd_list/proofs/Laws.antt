@@ -1,5 +1,5 @@
 -- The effects of commands on lists are faithful.
-use Rattle.std.proofs.Common.{ℕ, ℤ, ◌<◌, ◌^◌, ◌≡◌, List, [], ◌∷◌, length, min, Bool, true, false, cond, ◌&&◌, Option, Some, None, refl, sym, ◌∙◌, ap, subst, arith}
+use Rattle.std.proofs.Common.{ℕ, ℤ, ◌<◌, ◌^◌, ◌≡◌, List, [], ◌∷◌, length, min, Bool, true, false, cond, Option, Some, None, refl, sym, ◌∙◌, ap, subst, arith}
 use Rattle.std.specs.Prelude.{IsTrue, if◌then◌else◌}
 use Rattle.std.specs.List.{list_all}
 use Rattle.std.specs.FinMap.{get}
@@ -9,6 +9,7 @@ use Rattle.mr_map.specs.Bytes.{Bytes}
 use Rattle.mr_bytes.specs.Words.{fits}
 use Rattle.mr_bytes.specs.declared.ends.End.{End}
 use Rattle.mr_bytes.specs.declared.ends.End.TheVariants.{Left, Right}
+use Rattle.mr_bytes.proofs.Both.{first, second}
 use Rattle.mr_keyspace.specs.Dataset.{Dataset}
 use Rattle.mr_data.specs.Dataset.{IsDataset, is_expired, live}
 use Rattle.mr_keyspace.specs.Steps.{lists, held, list_of}
@@ -77,16 +78,8 @@ pops k end (Some most) m kept named short = on_list_faithful _ k m kept _ (λ e 
 turned_in_place : (k : Bytes) (taken put : End) (m : Dataset) → IsDataset m → IsTrue (fits k) → IsFaithfulAnswer (rotate_answer k taken put (get m k)) k m
 turned_in_place k taken put m kept named = on_list_faithful _ k m kept _ (λ e is xs there. turn_faithful k xs (get m k) named there taken put)
 
-left : (a b : Bool) → a && b ≡ true → a ≡ true
-left true b h = refl
-left false b h = cc
-
-right : (a b : Bool) → a && b ≡ true → b ≡ true
-right true b h = h
-right false b h = cc
-
 all_words : (k : Bytes) (words : List Bytes) → IsTrue (list_all fits (k ∷ words)) → IsTrue (fits k) × IsTrue (list_all fits words)
-all_words k words h = (left (fits k) (list_all fits words) h, right (fits k) (list_all fits words) h)
+all_words k words h = (first (fits k) (list_all fits words) h, second (fits k) (list_all fits words) h)
 
 one_fits : (k : Bytes) → IsTrue (fits k) → IsTrue (list_all fits (k ∷ []))
 one_fits k h = both (fits k) true h refl

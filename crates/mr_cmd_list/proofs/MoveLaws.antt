@@ -4,11 +4,13 @@ use Rattle.std.specs.Prelude.{◌≢◌, ◌||◌, IsTrue, if◌then◌else◌}
 use Rattle.std.specs.Option.{option_map, option_and_then}
 use Rattle.std.specs.FinMap.{get}
 use Rattle.std.specs.Str.{bytes_eq}
+use Rattle.std.proofs.lemmas.Option.{same_Some}
 use Rattle.mr_map.specs.Bytes.{Bytes}
 use Rattle.mr_bytes.specs.Words.{fits}
 use Rattle.mr_value.specs.Lists.{are_equal}
 use Rattle.mr_bytes.specs.declared.ends.End.{End}
 use Rattle.mr_bytes.specs.declared.ends.End.TheVariants.{Left, Right}
+use Rattle.mr_bytes.proofs.Numbers.{equal_bytes}
 use Rattle.mr_value.proofs.Uniform.{turns_left, turns_right}
 use Rattle.mr_keyspace.specs.Dataset.{Dataset, put_at}
 use Rattle.mr_keyspace.specs.Collections.{end_item, popped, put_item, turned, may_take}
@@ -26,7 +28,7 @@ use Rattle.mr_data.proofs.Running.{IsStep, same_collection}
 use Rattle.mr_data.proofs.KindLaws.{lists_are}
 use Rattle.mr_cmd_shared.proofs.Changing.{IsFaithfulChange}
 use Rattle.mr_cmd_list.specs.Moves.{is_same_end, with_rotated, Carry, carry, carry_from, carry_to, carry_item, carried}
-use Rattle.mr_cmd_list.proofs.Sizes.{not_both, both, bytes_itself, end_some, may_take_some, popped_less}
+use Rattle.mr_cmd_list.proofs.Sizes.{not_both, both, end_some, may_take_some, popped_less}
 use Rattle.mr_cmd_list.proofs.MoveLemmas.{apart_key}
 use Rattle.mr_cmd_list.proofs.OneEffect.{no_effect, unless_same}
 use Rattle.mr_effect.proofs.Texts.{short_effect}
@@ -36,28 +38,25 @@ turned_left_right : (xs : List Bytes) → 0 < length xs → turned Left Right xs
 turned_left_right [] h = absurd (omega (arith, h))
 turned_left_right (x ∷ xs) h = refl
 
-same_some : {X : Type 0} {x y : X} → Some x ≡ Some y → x ≡ y
-same_some h = cc
-
 -- what the item put back leaves
 made : (taken put : End) (item : Bytes) (xs : List Bytes) → end_item taken xs ≡ Some item → turned taken put xs ≡ Some (put_item put item (popped taken 1 xs))
 made taken put item xs is = ap (option_map (λ y. put_item put y (popped taken 1 xs))) is
 
 stays : (taken put : End) (item : Bytes) (xs : List Bytes) → end_item taken xs ≡ Some item → (is_same_end taken put || are_equal xs) ≡ true → put_item put item (popped taken 1 xs) ≡ xs
-stays Left Left item xs is h = same_some (sym (made Left Left item xs is) ∙ turned_same Left xs (end_some Left xs item is))
-stays Right Right item xs is h = same_some (sym (made Right Right item xs is) ∙ turned_same Right xs (end_some Right xs item is))
-stays Left Right item xs is h = same_some (sym (made Left Right item xs is) ∙ turned_left_right xs (end_some Left xs item is)) ∙ (turns_left xs).0 h
-stays Right Left item xs is h = same_some (sym (made Right Left item xs is) ∙ turned_right_left xs (end_some Right xs item is)) ∙ (turns_right xs).0 h
+stays Left Left item xs is h = same_Some _ _ (sym (made Left Left item xs is) ∙ turned_same Left xs (end_some Left xs item is))
+stays Right Right item xs is h = same_Some _ _ (sym (made Right Right item xs is) ∙ turned_same Right xs (end_some Right xs item is))
+stays Left Right item xs is h = same_Some _ _ (sym (made Left Right item xs is) ∙ turned_left_right xs (end_some Left xs item is)) ∙ (turns_left xs).0 h
+stays Right Left item xs is h = same_Some _ _ (sym (made Right Left item xs is) ∙ turned_right_left xs (end_some Right xs item is)) ∙ (turns_right xs).0 h
 
 turns : (taken put : End) (item : Bytes) (xs : List Bytes) → end_item taken xs ≡ Some item → (is_same_end taken put || are_equal xs) ≡ false → put_item put item (popped taken 1 xs) ≢ xs
 turns Left Left item xs is h same = cc
 turns Right Right item xs is h same = cc
-turns Left Right item xs is h same = not_both ((turns_left xs).1 (same_some (sym (turned_left_right xs (end_some Left xs item is)) ∙ made Left Right item xs is) ∙ same)) h
-turns Right Left item xs is h same = not_both ((turns_right xs).1 (same_some (sym (turned_right_left xs (end_some Right xs item is)) ∙ made Right Left item xs is) ∙ same)) h
+turns Left Right item xs is h same = not_both ((turns_left xs).1 (same_Some _ _ (sym (turned_left_right xs (end_some Left xs item is)) ∙ made Left Right item xs is) ∙ same)) h
+turns Right Left item xs is h same = not_both ((turns_right xs).1 (same_Some _ _ (sym (turned_right_left xs (end_some Right xs item is)) ∙ made Right Left item xs is) ∙ same)) h
 
 turn_is_step : (k : Bytes) (taken put : End) → IsTrue (fits k) → IsStep k (effect.MoveItem k k taken put) (turn_step taken put)
 unfolding change
-turn_is_step k taken put named = record { possible = both (fits k) (fits k) named named; short = short_effect (effect.MoveItem k k taken put) (omega arith); is = λ m. ap (λ b. if b then at_key (turn_step taken put) k m else carry_in k k taken put m) (bytes_itself k) }
+turn_is_step k taken put named = record { possible = both (fits k) (fits k) named named; short = short_effect (effect.MoveItem k k taken put) (omega arith); is = λ m. ap (λ b. if b then at_key (turn_step taken put) k m else carry_in k k taken put m) (equal_bytes k) }
 
 module _ (k : Bytes) (x : List Bytes) (o : Option Entry) (named : IsTrue (fits k)) (there : held lists o ≡ Some x) where
   pub turn_faithful : (taken put : End) → IsFaithfulChange lists (with_rotated k taken put (end_item taken x) x) x k o

@@ -7,6 +7,7 @@ use Rattle.std.proofs.lemmas.List.{map-append}
 use Rattle.mr_map.specs.Bytes.{Bytes}
 use Rattle.mr_resp.specs.Replies.{Tree}
 use Rattle.mr_bytes.specs.declared.ends.End.{End}
+use Rattle.mr_bytes.proofs.Numbers.{same_bytes, equal_bytes}
 use Rattle.mr_keyspace.specs.Dataset.{Dataset}
 use Rattle.mr_data.specs.Dataset.{live, seen}
 use Rattle.mr_data.proofs.Seeing.{get-seen}
@@ -20,12 +21,11 @@ use Rattle.mr_cmd_shared.specs.Commands.{on_key, IsPlan}
 use Rattle.mr_keyspace.proofs.Maps.{same_key}
 use Rattle.mr_keyspace.proofs.Puts.{is_key_itself, get_remove, removed}
 use Rattle.mr_cmd_shared.proofs.KeyLists.{get_purged}
-use Rattle.mr_cmd_list.proofs.Sizes.{same_bytes, bytes_itself}
 use Rattle.mr_cmd_list.specs.Moves.{rotate_answer, carry, carried, moved, moving}
 
 pub apart_key : (s d : Bytes) → bytes_eq s d ≡ false → is_key d s ≡ false
 apart_key s d apart = elim (is_key d s) as (λ b. is_key d s ≡ b → b ≡ false) [
-  | true ↦ λ t. let both : false ≡ true = sym apart ∙ ap (bytes_eq s) (same_key d s t) ∙ bytes_itself s in cc
+  | true ↦ λ t. let both : false ≡ true = sym apart ∙ ap (bytes_eq s) (same_key d s t) ∙ equal_bytes s in cc
   | false ↦ λ t. refl
 ] refl
 

@@ -5,6 +5,7 @@ use Rattle.mr_map.specs.Bytes.{Bytes}
 use Rattle.mr_bytes.specs.Words.{fits}
 use Rattle.mr_bytes.specs.Number.{is_i64}
 use Rattle.mr_bytes.specs.declared.ends.End.{End}
+use Rattle.mr_bytes.proofs.Numbers.{is_i64-pos}
 use Rattle.mr_keyspace.specs.Collections.{may_take, popped, end_item}
 use Rattle.mr_keyspace.specs.Steps.{lists, held, pop_step}
 use Rattle.mr_keyspace.specs.Changes.{change}
@@ -13,13 +14,13 @@ use Rattle.mr_effect.specs.declared.effect.Effect.TheVariants as effect
 use Rattle.mr_data.proofs.Running.{IsStep}
 use Rattle.mr_cmd_shared.proofs.Changing.{IsFaithfulChange}
 use Rattle.mr_cmd_list.specs.Pops.{without_item, without_items}
-use Rattle.mr_cmd_list.proofs.Sizes.{both, small, positive, none_of, end_some, may_take_some, popped_none, popped_less}
+use Rattle.mr_cmd_list.proofs.Sizes.{both, positive, none_of, end_some, may_take_some, popped_none, popped_less}
 use Rattle.mr_cmd_list.proofs.OneEffect.{no_effect, one_effect, unless_same}
 use Rattle.mr_effect.proofs.Texts.{short_effect}
 
 pop_is_step : (k : Bytes) (end : End) (n : ℕ) → IsTrue (fits k) → n < 2 ^ 63 → IsStep k (effect.Pop k end (pos n)) (pop_step end (pos n))
 unfolding change
-pop_is_step k end n named short = record { possible = both (is_i64 (pos n)) (fits k) (small n short) named; short = short_effect (effect.Pop k end (pos n)) (omega arith); is = λ m. refl }
+pop_is_step k end n named short = record { possible = both (is_i64 (pos n)) (fits k) (is_i64-pos n short) named; short = short_effect (effect.Pop k end (pos n)) (omega arith); is = λ m. refl }
 
 -- what so many items at an end leave
 left_is : (end : End) (n : ℕ) (xs : List Bytes) → 0 < n → n ≤ length xs → (if may_take (pos n) (length xs) then Some (popped end n xs) else None) ≡ Some (popped end n xs)

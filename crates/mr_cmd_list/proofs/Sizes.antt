@@ -1,19 +1,16 @@
 -- Numbers and tests, and lists that differ in length.
-use Rattle.std.proofs.Common.{rules, ℕ, zero, suc, ◌-◌, ◌<◌, ◌≤◌, ◌^◌, ◌≡◌, ℤ, pos, negsuc, ◌+ℤ◌, ◌<ℤ◌, ◌≤ℤ◌, List, length, Bool, true, false, ◌&&◌, Some, None, refl, ap, arith, eqb-true}
+use Rattle.std.proofs.Common.{ℕ, zero, suc, ◌-◌, ◌<◌, ◌≤◌, ◌≡◌, ℤ, pos, negsuc, ◌+ℤ◌, ◌<ℤ◌, List, length, Bool, true, false, ◌&&◌, Some, None, refl, ap, arith, eqb-true}
 use Rattle.std.specs.Prelude.{◌≢◌, ◌==◌, ◌||◌, int_lt, int_le, unsigned_abs, if◌then◌else◌}
 use Rattle.std.specs.Int.{int_min, int_max}
-use Rattle.std.specs.Str.{bytes_eq}
 use Rattle.std.proofs.lemmas.Int.{ints, clamps}
-use Rattle.std.proofs.lemmas.Bool.{lt-ltb, le-leb}
+use Rattle.std.proofs.lemmas.Bool.{le-leb}
 use Rattle.std.proofs.lemmas.List.{length-drop, length-take, take_all}
 use Rattle.std.proofs.lemmas.Option.{slice_get_within}
-use Rattle.std.proofs.lemmas.Slice.Eq.{bytes_eq-Decides}
 use Rattle.mr_map.specs.Bytes.{Bytes}
-use Rattle.mr_bytes.specs.Number.{is_i64}
 use Rattle.mr_bytes.specs.Window.{place_of, named_place, window_of}
 use Rattle.mr_bytes.specs.declared.ends.End.{End}
 use Rattle.mr_bytes.specs.declared.ends.End.TheVariants.{Left, Right}
-use Rattle.mr_bytes.proofs.Windows.{in_order}
+use Rattle.mr_bytes.proofs.Windows.{in_order, natural}
 use Rattle.mr_keyspace.specs.Collections.{may_take, popped, end_item}
 
 pub both : (a b : Bool) → a ≡ true → b ≡ true → a && b ≡ true
@@ -25,21 +22,12 @@ three a b c p q r = rw (p, q, r) refl
 pub not_both : {b : Bool} → b ≡ true → b ≡ false → ⊥
 not_both h i = cc
 
-pub small : (n : ℕ) → n < 2 ^ 63 → is_i64 (pos n) ≡ true
-small n h = lt-ltb n (2 ^ 63) h
-
 pub positive : (n : ℕ) → (n == 0) ≡ false → 0 < n
 positive zero h = cc
 positive (suc n) h = omega arith
 
 pub none_of : (n : ℕ) → (n == 0) ≡ true → n ≡ 0
 none_of n h = eqb-true n 0 h
-
-pub same_bytes : (xs ys : Bytes) → bytes_eq xs ys ≡ true → xs ≡ ys
-same_bytes xs ys h = search (rules, bytes_eq-Decides)
-
-pub bytes_itself : (xs : Bytes) → bytes_eq xs xs ≡ true
-bytes_itself xs = search (rules, bytes_eq-Decides)
 
 -- ---- items at an end
 pub end_some : (end : End) (xs : List Bytes) (item : Bytes) → end_item end xs ≡ Some item → 0 < length xs
@@ -58,10 +46,6 @@ popped_less Left n xs some few h = omega (arith, ap length h, length-drop n xs)
 popped_less Right n xs some few h = omega (arith, ap length h, length-take (length xs - n) xs)
 
 -- ---- places
-natural : (z : ℤ) → pos 0 ≤ℤ z → pos (unsigned_abs z) ≡ z
-natural (pos n) h = refl
-natural (negsuc n) h = absurd (omega (arith, ints))
-
 neither : (a b : Bool) → (a || b) ≡ false → (a ≡ false) × (b ≡ false)
 neither true b h = cc
 neither false b h = (refl, h)

@@ -1,13 +1,12 @@
 -- What is read of a command to the server itself is spelled by the words.
-use Rattle.std.proofs.Common.{rules, ℕ, ℤ, pos, ◌≡◌, List, [], ◌∷◌, Bool, true, false, refl, ◌∙◌, ap}
+use Rattle.std.proofs.Common.{ℕ, ℤ, pos, ◌≡◌, List, [], ◌∷◌, Bool, true, false, refl, ◌∙◌, ap}
 use Rattle.std.specs.Prelude.{IfOk, if◌then◌else◌, Result, Ok, Err}
 use Rattle.std.specs.Str.{bytes_eq}
-use Rattle.mr_bytes.proofs.Numbers.{same_bytes}
+use Rattle.mr_bytes.proofs.Numbers.{same_bytes, same_number}
 use Rattle.mr_arguments.specs.Names.{lowered}
 use Rattle.mr_arguments.specs.Parts.{with}
 use Rattle.std.specs.Ordering.{int_eq}
 use Rattle.std.specs.Fmt.{signed_decimal}
-use Rattle.std.proofs.lemmas.Bool.Decides.{Decides-int_eq}
 use Rattle.mr_cmd_server.specs.Arguments.{ping, echo, select, quit, bgrewriteaof, info, role, shutdown, saving_of, saving_text, command, client, database, setname, setinfo}
 use Rattle.mr_arguments.proofs.FitLemmas.{all_words}
 use Rattle.mr_cmd_server.specs.Spelled.{ServerSpells}
@@ -19,9 +18,6 @@ use Rattle.mr_arguments.specs.declared.fault.AskFault.TheVariants.{Other, Syntax
 use Rattle.mr_cmd_server.specs.declared.server_ask.Saving.{Saving}
 use Rattle.mr_cmd_server.specs.declared.server_ask.Saving.TheVariants.{First, Never}
 use Rattle.mr_arguments.specs.declared.fault.BadValue.TheVariants.{Database}
-
-same_number : (m n : ℤ) → int_eq m n ≡ true → m ≡ n
-same_number m n h = search (rules, Decides-int_eq)
 
 pub ping_carries : (ws : List (List ℕ)) → IfOk (ping ws) (ServerSpells name.Ping ws)
 ping_carries [] = record { name_is = refl; parts = tt }

@@ -18,7 +18,7 @@ use Rattle.mr_data.proofs.Seeing.{get-seen}
 use Rattle.mr_effect.specs.declared.effect.Effect.{Effect}
 use Rattle.mr_cmd_shared.specs.Keys.{is_stored, expired, dels}
 use Rattle.mr_keyspace.specs.Steps.{sets, held}
-use Rattle.std.proofs.lemmas.List.{map-append}
+use Rattle.std.proofs.lemmas.List.{map-append, append-nil}
 use Rattle.std.proofs.lemmas.List.Folds.{list_any-append}
 use Rattle.mr_cmd_shared.proofs.KeyLists.{more_words}
 use Rattle.mr_cmd_set.specs.Members.{Members, joined}
@@ -160,9 +160,5 @@ none_expired now (k ∷ ks) m h =
     right true b h = cc
     right false b h = h
 
-append_none : (es : List Effect) → es ++ [] ≡ es
-append_none [] = refl
-append_none (e ∷ es) = ap (λ fs. e ∷ fs) (append_none es)
-
 pub no_dels : (now : ℤ) (ks : List Bytes) (m : Dataset) (es : List Effect) → is_any_expired now ks m ≡ false → es ≡ es ++ dels (expired now ks m)
-no_dels now ks m es h = sym (ap (λ xs. es ++ dels xs) (none_expired now ks m h) ∙ append_none es)
+no_dels now ks m es h = sym (ap (λ xs. es ++ dels xs) (none_expired now ks m h) ∙ append-nil es)

@@ -3,7 +3,9 @@ use Rattle.std.proofs.Common.{◌≡◌, ℕ, Bool, true, ◌&&◌, refl}
 use Rattle.std.specs.Prelude.{IsTrue, ℤ}
 use Rattle.std.specs.List.{list_all}
 use Rattle.std.specs.FinMap.{contains_key, keys, len}
+use Rattle.std.proofs.lemmas.Bool.{and_from}
 use Rattle.mr_bytes.specs.Words.{fits}
+use Rattle.mr_bytes.proofs.Both.{first, second}
 use Rattle.mr_keyspace.specs.Dataset.{Dataset}
 use Rattle.mr_cmd_set.specs.Carried.{set_words}
 use Rattle.mr_cmd_set.specs.declared.set_ask.SetAsk.{SetAsk}
@@ -15,12 +17,12 @@ use Rattle.mr_cmd_set.specs.Members.{as_set}
 use Rattle.mr_cmd_set.specs.Sets.{added, adding, removed, removing, taken, taking, drawn_reply, flag, flags, bulks, number}
 use Rattle.mr_cmd_set.specs.SetCommands.{command, RestsOn}
 use Rattle.mr_cmd_set.proofs.Groups.{group_change}
-use Rattle.mr_cmd_set.proofs.Faithful.{first, second, both, held_fits, taken_there, with_added, added_none, added_fit, without_removed, removed_none, removed_fit, without_set, set_none, set_fits, changing_set}
+use Rattle.mr_cmd_set.proofs.Faithful.{held_fits, taken_there, with_added, added_none, added_fit, without_removed, removed_none, removed_fit, without_set, set_none, set_fits, changing_set}
 use Rattle.mr_cmd_set.proofs.AnswerLemmas.{tells_faithful}
 use Rattle.mr_cmd_set.proofs.Moves.{move_faithful}
 
 one_key : (a b : Bool) → a && b ≡ true → a && true ≡ true
-one_key a b h = both a true (first a b h) refl
+one_key a b h = and_from a true (first a b h) refl
 
 pub sets_faithful : (command_asked : SetAsk) (word : ℕ) (now : ℤ) (m : Dataset) → RestsOn command_asked m → IsTrue (list_all fits (set_words command_asked)) → IsLawful (command command_asked word) now m
 sets_faithful (ask.SAdd k xs) word now m kept h = changing_set k (adding k xs) now m kept (first _ _ h) (λ n s n_kept is.

@@ -4,9 +4,9 @@ use Rattle.std.specs.Prelude.{slice_get, option_copied, IfSome, IfNone}
 use Rattle.std.specs.Borrow.{Bor}
 use Rattle.std.proofs.lemmas.List.{map-append, length-drop}
 use Rattle.std.proofs.lemmas.Option.{slice_get-get_or}
-use Rattle.std.proofs.Math.Nat.{mod-lt}
+use Rattle.std.proofs.Math.Nat.{mod-lt, suc-min-suc}
 use Rattle.mr_cmd_set.specs.Members.{from_place, drawn}
-use Rattle.mr_cmd_set.specs.Grouping.{texts}
+use Rattle.mr_cmd_set.specs.Grouping.{lent}
 
 minus_zero : (n : ℕ) → n - 0 ≡ n
 minus_zero n = omega arith
@@ -22,9 +22,6 @@ zero_min n = omega arith
 
 min_zero : (n : ℕ) → min n 0 ≡ 0
 min_zero n = omega arith
-
-min_suc : (n k : ℕ) → min (suc n) (suc k) ≡ suc (min n k)
-min_suc n k = omega arith
 
 module _ {A : Type 0} where
   take_none : (n : ℕ) → take {A = A} n [] ≡ []
@@ -43,13 +40,13 @@ module _ {A : Type 0} where
   take_within : (n : ℕ) (xs : List A) → take n xs ≡ take (min n (length xs)) xs
   take_within n [] = take_none n ∙ sym (take_none (min n 0))
   take_within zero (x ∷ xs) = sym (ap (λ k. take k (x ∷ xs)) (zero_min (length (x ∷ xs))))
-  take_within (suc n) (x ∷ xs) = ap (λ zs. x ∷ zs) (take_within n xs) ∙ ap (λ k. take k (x ∷ xs)) (sym (min_suc n (length xs)))
+  take_within (suc n) (x ∷ xs) = ap (λ zs. x ∷ zs) (take_within n xs) ∙ ap (λ k. take k (x ∷ xs)) (sym (suc-min-suc n (length xs)))
 
   take_of_take : (n p : ℕ) (xs : List A) → take n (take p xs) ≡ take (min n p) xs
   take_of_take n p [] = ap (take n) (take_none p) ∙ take_none n ∙ sym (take_none (min n p))
   take_of_take zero p (x ∷ xs) = sym (ap (λ k. take k (x ∷ xs)) (zero_min p))
   take_of_take (suc n) zero (x ∷ xs) = sym (ap (λ k. take k (x ∷ xs)) (min_zero (suc n)))
-  take_of_take (suc n) (suc p) (x ∷ xs) = ap (λ zs. x ∷ zs) (take_of_take n p xs) ∙ ap (λ k. take k (x ∷ xs)) (sym (min_suc n p))
+  take_of_take (suc n) (suc p) (x ∷ xs) = ap (λ zs. x ∷ zs) (take_of_take n p xs) ∙ ap (λ k. take k (x ∷ xs)) (sym (suc-min-suc n p))
 
   taken_at : (xs ys : List A) (p : ℕ) (x : A) → slice_get xs p ≡ Some x → take 1 (drop p xs ++ ys) ≡ x ∷ []
   taken_at [] ys p x h = cc
@@ -89,10 +86,10 @@ taken_one out ms rest all x n i h e t =
 pub taken_none : (out ms rest all : List (List ℕ)) (n i : ℕ) → (ms ≡ []) × (rest ≡ []) → out ++ take (n - i) ms ≡ all → out ++ take (n - (i + 1)) rest ≡ all
 taken_none out ms rest all n i e t = ap (λ ys. out ++ ys) (ap (take (n - (i + 1))) e.1 ∙ take_none (n - (i + 1)) ∙ sym (ap (take (n - i)) e.0 ∙ take_none (n - i))) ∙ t
 
-pub taken_next : (items more : List (Bor (List ℕ))) (ms rest all : List (List ℕ)) (x : Bor (List ℕ)) (n i : ℕ) → i < n → ms ≡ x.now ∷ rest → more ≡ items ++ x ∷ [] → texts items ++ take (n - i) ms ≡ all → texts more ++ take (n - (i + 1)) rest ≡ all
+pub taken_next : (items more : List (Bor (List ℕ))) (ms rest all : List (List ℕ)) (x : Bor (List ℕ)) (n i : ℕ) → i < n → ms ≡ x.now ∷ rest → more ≡ items ++ x ∷ [] → lent items ++ take (n - i) ms ≡ all → lent more ++ take (n - (i + 1)) rest ≡ all
 taken_next items more ms rest all x n i h e m t =
-    ap (λ ys. ys ++ take (n - (i + 1)) rest) (ap texts m ∙ map-append (λ (y : Bor (List ℕ)). y.now) items (x ∷ []))
-    ∙ taken_one (texts items) ms rest all x.now n i h e t
+    ap (λ ys. ys ++ take (n - (i + 1)) rest) (ap lent m ∙ map-append (λ (y : Bor (List ℕ)). y.now) items (x ∷ []))
+    ∙ taken_one (lent items) ms rest all x.now n i h e t
 
 -- ---- one member
 module _ (word : ℕ) (ks : List (List ℕ)) (n : ℕ) (e : n ≡ length ks) where

@@ -1,52 +1,33 @@
 -- The effects of commands on sets are faithful.
-use Rattle.std.proofs.Common.{◌≡◌, ℕ, zero, suc, List, [], ◌∷◌, ◌++◌, take, drop, length, Bool, true, false, ◌&&◌, cond, Option, Some, None, refl, sym, ◌∙◌, ap}
+use Rattle.std.proofs.Common.{◌≡◌, ℕ, zero, suc, List, [], ◌∷◌, take, drop, length, Bool, true, false, ◌&&◌, Option, Some, None, refl, sym, ◌∙◌, ap}
 use Rattle.std.specs.Prelude.{IsTrue, ℤ, ◌||◌, ◌%◌, not}
 use Rattle.std.specs.List.{list_all}
 use Rattle.std.specs.FinMap.{get, empty, keys, contains_key}
+use Rattle.std.proofs.lemmas.Bool.{and_from}
 use Rattle.mr_map.specs.Bytes.{Bytes}
 use Rattle.mr_bytes.specs.Words.{fits}
+use Rattle.mr_bytes.proofs.Both.{first, second}
 use Rattle.mr_keyspace.specs.Dataset.{Dataset}
-use Rattle.mr_data.specs.Dataset.{IsDataset, IsValue, live, is_expired}
+use Rattle.mr_data.specs.Dataset.{IsDataset, IsValue}
 use Rattle.mr_keyspace.specs.Collections.{with_members, without_members}
 use Rattle.mr_keyspace.specs.Steps.{sets, held, set_of}
 use Rattle.mr_keyspace.specs.declared.value.Value.{Value}
 use Rattle.mr_keyspace.specs.declared.value.Value.TheVariants as value
 use Rattle.mr_keyspace.specs.declared.value.Entry.{Entry}
 use Rattle.mr_cmd_shared.specs.Taken.{is_key, has}
-use Rattle.mr_cmd_shared.specs.Keys.{purged}
 use Rattle.mr_cmd_shared.specs.Collections.{Change, changing}
 use Rattle.mr_cmd_shared.specs.Commands.{on_key, before}
 use Rattle.mr_keyspace.proofs.Maps.{same_key}
 use Rattle.mr_keyspace.proofs.Puts.{is_key_itself}
-use Rattle.mr_cmd_shared.proofs.KeyLists.{get_purged}
+use Rattle.mr_cmd_shared.proofs.KeyLists.{purged_kept}
 use Rattle.mr_cmd_shared.proofs.Laws.{faithful, at_key_faithful, IsLawful}
 use Rattle.mr_data.proofs.KindLaws.{sets_are, sets_kept}
 use Rattle.mr_cmd_shared.proofs.Changing.{IsFaithfulChange, changing_faithful}
+use Rattle.mr_cmd_shared.specs.Numbers.{count_or_one}
+use Rattle.mr_cmd_shared.proofs.TakenLemmas.{has_append}
 use Rattle.mr_cmd_set.specs.Members.{Members, as_set, from_place}
-use Rattle.mr_cmd_set.specs.Sets.{added, removed, taken, count_or_one}
+use Rattle.mr_cmd_set.specs.Sets.{added, removed, taken}
 use Rattle.mr_cmd_set.proofs.Sets.{same_set, contains_empty, contains_with, contains_without, contains_retain, contains_as_set, has_keys}
-
-pub first : (a b : Bool) → a && b ≡ true → a ≡ true
-first true b h = refl
-first false b h = cc
-
-pub second : (a b : Bool) → a && b ≡ true → b ≡ true
-second true b h = h
-second false b h = cc
-
-pub both : (a b : Bool) → a ≡ true → b ≡ true → a && b ≡ true
-both true b p q = q
-both false b p q = cc
-
--- ---- what a dataset keeps, it keeps without expired keys
-live_is : (now : ℤ) (o : Option Entry) (e : Entry) → live now o ≡ Some e → o ≡ Some e
-live_is now None e h = h
-live_is now (Some f) e h = elim (is_expired now f.deadline) as (λ b. (let none : Option Entry = None in cond b none (Some f)) ≡ Some e → Some f ≡ Some e) [ true ↦ λ i. cc | false ↦ λ i. i ] h
-
-pub purged_kept : (now : ℤ) (ks : List Bytes) (m : Dataset) → IsDataset m → IsDataset (purged now ks m)
-purged_kept now ks m h = record {
-  entries = λ k e is. h.entries k e (elim (has ks k) as (λ b. cond b (live now (get m k)) (get m k) ≡ Some e → get m k ≡ Some e) [ true ↦ λ i. live_is now (get m k) e i | false ↦ λ i. i ] (sym (get_purged now ks m k) ∙ is));
-}
 
 -- the members of a set in a dataset are within the word limit
 set_of_fits : (v : Value) (s : Members) (x : Bytes) → IsValue v → set_of v ≡ Some s → contains_key s x ≡ true → IsTrue (fits x)
@@ -74,18 +55,10 @@ or_right false b h = h
 
 all_fit : (xs : List Bytes) → ((q : Bytes) → has xs q ≡ true → IsTrue (fits q)) → IsTrue (list_all fits xs)
 all_fit [] h = refl
-all_fit (x ∷ xs) h = both _ _ (h x (ap (λ b. b || has xs x) (is_key_itself x))) (all_fit xs (λ q i. h q (or_right (is_key q x) (has xs q) i)))
+all_fit (x ∷ xs) h = and_from _ _ (h x (ap (λ b. b || has xs x) (is_key_itself x))) (all_fit xs (λ q i. h q (or_right (is_key q x) (has xs q) i)))
 
 keys_fit : (t : Members) → ((q : Bytes) → contains_key t q ≡ true → IsTrue (fits q)) → IsTrue (list_all fits (keys t))
 keys_fit t h = all_fit (keys t) (λ q i. h q (sym (has_keys t q) ∙ i))
-
-has_append : (xs ys : List Bytes) (q : Bytes) → has (xs ++ ys) q ≡ (has xs q || has ys q)
-has_append [] ys q = refl
-has_append (x ∷ xs) ys q = ap (λ b. is_key q x || b) (has_append xs ys q) ∙ assoc (is_key q x) (has xs q) (has ys q)
-  where
-    assoc : (a b c : Bool) → (a || (b || c)) ≡ ((a || b) || c)
-    assoc true b c = refl
-    assoc false b c = refl
 
 has_take : (n : ℕ) (xs : List Bytes) (q : Bytes) → has (take n xs) q ≡ true → has xs q ≡ true
 has_take zero xs q h = cc
@@ -187,4 +160,4 @@ module _ (k : Bytes) (change : Members → Change Members) (now : ℤ) (m : Data
       let c = on_key k (changing sets change) in
       let n = before c now m in
       let n_kept = purged_kept now (k ∷ []) m kept in
-      faithful c now m (both (fits k) true h refl) (at_key_faithful k (changing sets change) n (changing_faithful sets sets_are change k n (sets_kept n k n_kept) (λ s is. f n s n_kept is)))
+      faithful c now m (and_from (fits k) true h refl) (at_key_faithful k (changing sets change) n (changing_faithful sets sets_are change k n (sets_kept n k n_kept) (λ s is. f n s n_kept is)))

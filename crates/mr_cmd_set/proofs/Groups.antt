@@ -1,8 +1,9 @@
 -- Effects on members, in groups, do what all members do.
-use Rattle.std.proofs.Common.{◌≡◌, ◌≢◌, List, [], ◌∷◌, map, Bool, true, false, ◌&&◌, Option, Some, refl, sym, ◌∙◌, ap, arith}
+use Rattle.std.proofs.Common.{◌≡◌, ◌≢◌, List, [], ◌∷◌, map, true, Option, Some, refl, sym, ◌∙◌, ap, arith}
 use Rattle.std.specs.Prelude.{IsTrue, ◌==◌}
 use Rattle.std.specs.List.{AllByRecursion, list_all}
 use Rattle.std.specs.FinMap.{empty, keys, len}
+use Rattle.std.proofs.lemmas.Bool.{and_from}
 use Rattle.mr_map.specs.Bytes.{Bytes}
 use Rattle.mr_bytes.specs.Words.{fits}
 use Rattle.mr_resp.specs.Replies.{Tree}
@@ -18,6 +19,7 @@ use Rattle.mr_data.proofs.Folds.{adding_members, add_members_is_step}
 use Rattle.mr_data.proofs.Running.{IsStep, steps_of, IsFold, group_step, groups_run}
 use Rattle.mr_data.proofs.KindLaws.{sets_are}
 use Rattle.mr_cmd_shared.proofs.Changing.{IsFaithfulChange}
+use Rattle.mr_cmd_shared.proofs.GroupLemmas.{no_map}
 use Rattle.mr_cmd_set.specs.declared.grouping.Write.{Write}
 use Rattle.mr_cmd_set.specs.declared.grouping.Write.TheVariants as write
 use Rattle.mr_cmd_set.specs.Members.{Members}
@@ -39,14 +41,10 @@ fold_of : (w : Write) → IsFold sets (written w)
 fold_of write.Add = adding_members
 fold_of write.Remove = record { nothing = λ s. refl; more = λ xs ys s. without_append xs ys s; deleted = λ xs s n none ys. ap (λ (t : Members). len t == 0) (without_members_none ys) ∙ no_elements (Unit {0}) }
 
-both : (a b : Bool) → a ≡ true → b ≡ true → a && b ≡ true
-both true b p q = q
-both false b p q = cc
-
 is_step : (w : Write) (k : Bytes) (g : List Bytes) → IsTrue (fits k) → IsGroup fits g → IsStep k (group_effect w k g) (group_step sets sets_are (written w) (fold_of w) g)
 unfolding change
 is_step write.Add k g h i = add_members_is_step k h g i
-is_step write.Remove k g h i = record { possible = both _ _ (some_word g i.some) (both _ _ h i.all); short = short_effect (effect.RemoveMembers k g) (omega (arith, i.few)); is = λ m. refl }
+is_step write.Remove k g h i = record { possible = and_from _ _ (some_word g i.some) (and_from _ _ h i.all); short = short_effect (effect.RemoveMembers k g) (omega (arith, i.few)); is = λ m. refl }
 
 are_steps : (w : Write) (k : Bytes) (gs : List (List Bytes)) → IsTrue (fits k) → AllByRecursion (IsGroup fits) gs → AllByRecursion (λ g. IsStep k (group_effect w k g) (group_step sets sets_are (written w) (fold_of w) g)) gs
 are_steps w k [] h i = tt
@@ -55,10 +53,6 @@ are_steps w k (g ∷ gs) h i = (is_step w k g h i.0, are_steps w k gs h i.1)
 are_some : (gs : List (List Bytes)) → AllByRecursion (IsGroup fits) gs → AllByRecursion (λ (g : List Bytes). g ≢ []) gs
 are_some [] i = tt
 are_some (g ∷ gs) i = (i.0.some, are_some gs i.1)
-
-no_map : {A B : Type 0} (f : A → B) (xs : List A) → map f xs ≡ [] → xs ≡ []
-no_map f [] h = refl
-no_map f (x ∷ xs) h = cc
 
 -- the members t are written
 pub group_change : (w : Write) (k : Bytes) (s t value : Members) (reply : Tree) (o : Option Entry) → held sets o ≡ Some s → IsTrue (fits k) → IsTrue (list_all fits (keys t)) → written w (keys t) s ≡ value → (value ≡ s → t ≡ empty) → IsFaithfulChange sets (record { reply = reply; value = value; effects = group_effects w k t }) s k o

@@ -10,6 +10,7 @@ use Rattle.std.specs.declared.cmp.Ordering.TheVariants.{Less, Equal, Greater}
 use Rattle.std.proofs.lemmas.List.Sums.{sum_by-append}
 use Rattle.std.proofs.lemmas.List.{length-append, length-take, length-drop, take-append-drop}
 use Rattle.mr_map.specs.Bytes.{Bytes, bytes_cmp}
+use Rattle.mr_map.proofs.Conditions.{first_holds, second_holds}
 use Rattle.mr_cmd_set.specs.declared.set_ask.SetOperation.TheVariants as operation
 use Rattle.mr_cmd_set.specs.Members.{Members, common, minus, joined, from_place, drawn}
 use Rattle.mr_cmd_set.specs.Combining.{of_all}
@@ -48,27 +49,19 @@ below Less h = refl
 below Equal h = absurd h
 below Greater h = absurd h
 
-left : (a b : Bool) → T (a && b) → T a
-left true b h = tt
-left false b h = absurd h
-
-right : (a b : Bool) → T (a && b) → T b
-right true b h = h
-right false b h = absurd h
-
 -- a key below all others isn't among them
 not_below : (x : Bytes) (es : List (Bytes × Unit {0})) → T (below_all bytes_cmp x es) → times x (names es) ≡ 0
 not_below x [] h = refl
 not_below x (e ∷ es) h =
     times_more x e.0 (names es)
-    ∙ ap (λ b. cond b 1 0 + times x (names es)) (below (bytes_cmp x e.0) (left (is_lt (bytes_cmp x e.0)) (below_all bytes_cmp x es) h))
-    ∙ ap (λ n. 0 + n) (not_below x es (right (is_lt (bytes_cmp x e.0)) (below_all bytes_cmp x es) h))
+    ∙ ap (λ b. cond b 1 0 + times x (names es)) (below (bytes_cmp x e.0) (first_holds (is_lt (bytes_cmp x e.0)) (below_all bytes_cmp x es) h))
+    ∙ ap (λ n. 0 + n) (not_below x es (second_holds (is_lt (bytes_cmp x e.0)) (below_all bytes_cmp x es) h))
 
 once : (x : Bytes) (es : List (Bytes × Unit {0})) → T (is_sorted bytes_cmp es) → times x (names es) ≤ 1
 once x [] h = omega arith
 once x (e ∷ es) h = subst (λ n. n ≤ 1) (sym (times_more x e.0 (names es))) (elim (is_key x e.0) as (λ b. is_key x e.0 ≡ b → cond b 1 0 + times x (names es) ≤ 1) [
-  | true ↦ λ t. let none = ap (λ (k : Bytes). times k (names es)) (same_key x e.0 t) ∙ not_below e.0 es (left (below_all bytes_cmp e.0 es) (is_sorted bytes_cmp es) h) in omega (arith, none)
-  | false ↦ λ t. let rest = once x es (right (below_all bytes_cmp e.0 es) (is_sorted bytes_cmp es) h) in omega (arith, rest)
+  | true ↦ λ t. let none = ap (λ (k : Bytes). times k (names es)) (same_key x e.0 t) ∙ not_below e.0 es (first_holds (below_all bytes_cmp e.0 es) (is_sorted bytes_cmp es) h) in omega (arith, none)
+  | false ↦ λ t. let rest = once x es (second_holds (below_all bytes_cmp e.0 es) (is_sorted bytes_cmp es) h) in omega (arith, rest)
 ] refl)
 
 pub drawn_once : (word n : ℕ) (s : Members) (x : Bytes) → times x (drawn word n (keys s)) ≤ 1

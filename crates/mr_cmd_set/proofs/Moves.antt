@@ -1,14 +1,14 @@
 -- A member that goes from one set into another.
-use Rattle.std.proofs.Common.{rules, ◌≡◌, ℕ, List, [], ◌∷◌, ◌++◌, append_assoc, Bool, true, false, ◌&&◌, cond, Option, Some, None, refl, sym, ◌∙◌, ap, arith}
+use Rattle.std.proofs.Common.{◌≡◌, List, [], ◌∷◌, ◌++◌, append_assoc, Bool, true, false, ◌&&◌, cond, Option, Some, None, refl, sym, ◌∙◌, ap, arith}
 use Rattle.std.specs.Prelude.{IsTrue, ℤ, ◌||◌, not, is_some, if◌then◌else◌}
 use Rattle.std.specs.List.{list_all}
 use Rattle.std.specs.Option.{option_map, option_and_then}
 use Rattle.std.specs.FinMap.{get, contains_key, insert, remove}
 use Rattle.std.specs.Str.{bytes_eq}
 use Rattle.std.proofs.lemmas.List.{map-append}
-use Rattle.std.proofs.lemmas.Slice.Eq.{bytes_eq-Decides}
 use Rattle.mr_map.specs.Bytes.{Bytes}
 use Rattle.mr_bytes.specs.Words.{fits}
+use Rattle.mr_bytes.proofs.Numbers.{same_bytes}
 use Rattle.mr_resp.specs.Replies.{Tree}
 use Rattle.mr_keyspace.specs.Dataset.{Dataset, put_at}
 use Rattle.mr_data.specs.Dataset.{live, seen}
@@ -25,10 +25,10 @@ use Rattle.mr_cmd_shared.specs.Taken.{is_key, has}
 use Rattle.mr_cmd_shared.specs.Keys.{expired, purged, dels, is_stored}
 use Rattle.mr_cmd_shared.specs.Outcomes.{answered}
 use Rattle.mr_cmd_shared.specs.Commands.{Command, before, Plans}
-use Rattle.mr_keyspace.proofs.Maps.{same_key}
 use Rattle.mr_keyspace.proofs.Puts.{is_key_itself, get_put, get_put_other, get_remove}
 use Rattle.mr_cmd_shared.proofs.KeyLists.{get_purged}
 use Rattle.mr_cmd_shared.proofs.Laws.{faithful, IsFaithfulAt, IsLawful, answered_faithful, one_short}
+use Rattle.mr_cmd_shared.proofs.TakenLemmas.{keys_apart, apart_turned}
 use Rattle.mr_data.proofs.Running.{held_entry}
 use Rattle.mr_data.proofs.KindLaws.{sets_are}
 use Rattle.mr_cmd_set.specs.Members.{Members}
@@ -37,27 +37,8 @@ use Rattle.mr_cmd_set.specs.Moving.{carried, moved, moving, smove, Gives}
 use Rattle.mr_cmd_set.proofs.Sets.{contains_remove}
 use Rattle.mr_effect.proofs.Texts.{short_effect}
 
-pub same_bytes : (xs ys : List ℕ) → bytes_eq xs ys ≡ true → xs ≡ ys
-same_bytes xs ys h = search (rules, bytes_eq-Decides)
-
-bytes_itself : (xs ys : List ℕ) → xs ≡ ys → bytes_eq xs ys ≡ true
-bytes_itself xs ys h = search (rules, bytes_eq-Decides)
-
--- two keys that aren't one
-apart : (q k : Bytes) → bytes_eq q k ≡ false → is_key q k ≡ false
-apart q k h = elim (is_key q k) as (λ b. is_key q k ≡ b → b ≡ false) [
-  | true ↦ λ t. let wrong : true ≡ false = sym (bytes_itself q k (same_key q k t)) ∙ h in cc
-  | false ↦ λ t. refl
-] refl
-
-turned : (q k : Bytes) → bytes_eq q k ≡ false → bytes_eq k q ≡ false
-turned q k h = elim (bytes_eq k q) as (λ b. bytes_eq k q ≡ b → b ≡ false) [
-  | true ↦ λ t. let wrong : true ≡ false = sym (bytes_itself q k (sym (same_bytes k q t))) ∙ h in cc
-  | false ↦ λ t. refl
-] refl
-
 get_other : (m : Dataset) (k q : Bytes) (o : Option Entry) → bytes_eq q k ≡ false → get (put_at m k o) q ≡ get m q
-get_other m k q o h = get_put_other m k o q ∙ ap (λ b. cond b o (get m q)) (apart q k h)
+get_other m k q o h = get_put_other m k o q ∙ ap (λ b. cond b o (get m q)) (keys_apart q k h)
 
 member_of : (v : Value) (s : Members) (x : Bytes) → set_of v ≡ Some s → contains_key s x ≡ true → is_member x v ≡ true
 member_of (value.Set t) s x h c = let same : t ≡ s = cc in ap (λ (u : Members). contains_key u x) same ∙ c
@@ -82,7 +63,7 @@ module _ (from to x : Bytes) (m : Dataset) (s d : Members) (source : held sets (
 
   module _ (differ : bytes_eq from to ≡ false) where
     carries : carry_member from to x m ≡ Some (carried from to x m s d)
-    carries = ap (option_and_then (at_key (add_members_step (x ∷ [])) to)) taken_out ∙ put_in (put_at m from (entry_of sets (deadline_of (get m from)) (remove s x))) (get_other m from to _ (turned from to differ))
+    carries = ap (option_and_then (at_key (add_members_step (x ∷ [])) to)) taken_out ∙ put_in (put_at m from (entry_of sets (deadline_of (get m from)) (remove s x))) (get_other m from to _ (apart_turned from to differ))
 
     carry_leads : is_some (get m from) ≡ true → contains_key s x ≡ true → fits from && fits to && fits x ≡ true → apply_all (effect.MoveMember from to x ∷ []) m ≡ Some (carried from to x m s d)
     unfolding apply change
@@ -139,7 +120,7 @@ module _ (now : ℤ) (from to : Bytes) (m : Dataset) where
 
   expired_two : bytes_eq from to ≡ false → expired now (from ∷ to ∷ []) m ≡ expired now (from ∷ []) m ++ expired now (to ∷ []) m
   expired_two h =
-      ap (λ (o : Option Entry). go (is_stored now true (get m from)) (if is_stored now true o then to ∷ [] else []) (expired now (to ∷ []) m)) (get_remove m from to ∙ ap (λ b. cond b None (get m to)) (apart to from (turned from to h)))
+      ap (λ (o : Option Entry). go (is_stored now true (get m from)) (if is_stored now true o then to ∷ [] else []) (expired now (to ∷ []) m)) (get_remove m from to ∙ ap (λ b. cond b None (get m to)) (keys_apart to from (apart_turned from to h)))
       ∙ elim (is_stored now true (get m from)) as (λ b. go b (expired now (to ∷ []) m) (expired now (to ∷ []) m) ≡ go b [] [] ++ expired now (to ∷ []) m) [ true ↦ refl | false ↦ refl ]
 
   expired_one : bytes_eq from to ≡ true → expired now (from ∷ to ∷ []) m ≡ expired now (from ∷ []) m

@@ -6,17 +6,16 @@ use Rattle.std.proofs.lemmas.Bool.{eqb-true}
 use Rattle.std.proofs.lemmas.List.{length-map, nil_from_length}
 use Rattle.std.proofs.lemmas.Cmp.{nat_list_cmp_total}
 use Rattle.std.proofs.lemmas.Map.Lookups.{exact_bytes}
+use Rattle.std.proofs.Math.Bool.{or-false}
 use Rattle.mr_map.specs.Bytes.{Bytes, bytes_cmp}
+use Rattle.mr_map.proofs.Conditions.{or_next}
+use Rattle.mr_map.proofs.Domains.{some_or}
 use Rattle.mr_keyspace.specs.Collections.{with_members, without_members}
 use Rattle.mr_cmd_shared.specs.Taken.{is_key, has}
 use Rattle.mr_keyspace.proofs.Maps.{same_key}
 use Rattle.mr_data.proofs.Folds.{members-append}
 use Rattle.mr_cmd_shared.proofs.KeyLists.{more_words}
 use Rattle.mr_cmd_set.specs.Members.{Members, as_set}
-
-some_or : (b : Bool) (x : Option (Unit {0})) → is_some (cond b (Some tt) x) ≡ (b || is_some x)
-some_or true x = refl
-some_or false x = refl
 
 none_or : (b : Bool) (x : Option (Unit {0})) → is_some (cond b None x) ≡ (not b && is_some x)
 none_or true x = refl
@@ -51,11 +50,6 @@ contains_retain s p q = ap is_some (get-retain_keys s p q (λ x t. ap p (sym (ex
 pub same_set : (s t : Members) → ((q : Bytes) → contains_key s q ≡ contains_key t q) → s ≡ t
 same_set s t h = same_map nat_list_cmp_total exact_bytes s t (λ q. marks (get s q) ∙ ap marked (h q) ∙ sym (marks (get t q)))
 
-or_next : (a b c : Bool) → (b || (a || c)) ≡ ((a || b) || c)
-or_next true true c = refl
-or_next true false c = refl
-or_next false b c = refl
-
 not_next : (a b c : Bool) → (not b && (not a && c)) ≡ (not (a || b) && c)
 not_next true true c = refl
 not_next true false c = refl
@@ -69,12 +63,8 @@ pub contains_without : (xs : List Bytes) (s : Members) (q : Bytes) → contains_
 contains_without [] s q = refl
 contains_without (x ∷ xs) s q = contains_without xs (remove s x) q ∙ ap (λ b. not (has xs q) && b) (contains_remove s x q) ∙ not_next (is_key q x) (has xs q) (contains_key s q)
 
-or_false : (b : Bool) → (b || false) ≡ b
-or_false true = refl
-or_false false = refl
-
 pub contains_as_set : (xs : List Bytes) (q : Bytes) → contains_key (as_set xs) q ≡ has xs q
-contains_as_set xs q = contains_with xs empty q ∙ ap (λ b. has xs q || b) (contains_empty q) ∙ or_false (has xs q)
+contains_as_set xs q = contains_with xs empty q ∙ ap (λ b. has xs q || b) (contains_empty q) ∙ or-false (has xs q)
 
 pub has_keys : (s : Members) (q : Bytes) → has (keys s) q ≡ contains_key s q
 has_keys s q = sym (contains_key-keys s q)

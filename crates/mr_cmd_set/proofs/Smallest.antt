@@ -10,6 +10,7 @@ use Rattle.std.proofs.lemmas.List.{get_or_default}
 use Rattle.std.proofs.lemmas.List.Elements.{All-nil, All-cons, All-contains}
 use Rattle.std.proofs.lemmas.List.Sorted.{IsPermutation-map, IsPermutation-sym, Contains-permutation, length_permutation, list_any-IsPermutation}
 use Rattle.std.proofs.lemmas.Map.Lookups.{exact_bytes}
+use Rattle.mr_bytes.proofs.Both.{second, first}
 use Rattle.mr_map.specs.Bytes.{Bytes}
 use Rattle.mr_cmd_set.specs.declared.set_ask.SetOperation.TheVariants as operation
 use Rattle.mr_cmd_set.specs.Members.{Members}
@@ -75,17 +76,9 @@ same_kept p q s t h =
     get-retain_keys s p x (alike p x) ∙ both (get s x) (get t x) (p x) (q x) (h x) ∙ sym (get-retain_keys t q x (alike q x))) in
     sym (keys_retain p s) ∙ ap keys same ∙ keys_retain q t
 
-left : (a b : Bool) → (a && b) ≡ true → a ≡ true
-left true b h = refl
-left false b h = h
-
-right : (a b : Bool) → (a && b) ≡ true → b ≡ true
-right true b h = h
-right false b h = cc
-
 in_each : (x : Bytes) (ss : List (Bor Members)) → is_wanted true ss x ≡ true → All (λ (s : Members). contains_key s x ≡ true) (members_of ss)
 in_each x [] h = All-nil (λ (s : Members). contains_key s x ≡ true)
-in_each x (s ∷ ss) h = All-cons (λ (s : Members). contains_key s x ≡ true) s.now (members_of ss) (left (contains_key s.now x) (is_wanted true ss x) h) (in_each x ss (right (contains_key s.now x) (is_wanted true ss x) h))
+in_each x (s ∷ ss) h = All-cons (λ (s : Members). contains_key s x ≡ true) s.now (members_of ss) (first (contains_key s.now x) (is_wanted true ss x) h) (in_each x ss (second (contains_key s.now x) (is_wanted true ss x) h))
 
 implied : (a b : Bool) → (b ≡ true → a ≡ true) → (a && b) ≡ b
 implied true b h = refl

@@ -30,8 +30,8 @@ abbrev pub group_effects : Write → Bytes → Members → List Effect
 group_effects w k s = map (group_effect w k) (cut (keys s))
 
 -- what references point to
-abbrev pub texts : List (Bor Bytes) → List Bytes
-texts xs = map (λ (x : Bor Bytes). x.now) xs
+abbrev pub lent : List (Bor Bytes) → List Bytes
+lent xs = map (λ (x : Bor Bytes). x.now) xs
 
 abbrev pub members_of : List (Bor Members) → List Members
 members_of ss = map (λ (s : Bor Members). s.now) ss

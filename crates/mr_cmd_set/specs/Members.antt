@@ -1,15 +1,12 @@
 -- What commands make of sets.
 use Rattle.std.specs.Prelude.{ℕ, ◌%◌, List, ◌++◌, take, drop, length, not}
-use Rattle.std.specs.FinMap.{empty, keys, contains_key, retain_keys}
+use Rattle.std.specs.FinMap.{keys, contains_key, retain_keys}
 use Rattle.mr_map.specs.Bytes.{Bytes, ByteMap}
 use Rattle.mr_keyspace.specs.Collections.{with_members}
+pub use Rattle.mr_keyspace.specs.Collections.{as_set}
 
 abbrev pub Members : Type 0
 Members = ByteMap (Unit {0})
-
--- these words, each once
-abbrev pub as_set : List Bytes → Members
-as_set xs = with_members xs empty
 
 -- the members of both
 abbrev pub common : Members → Members → Members

@@ -12,6 +12,7 @@ use Rattle.mr_effect.specs.declared.effect.Effect.{Effect}
 use Rattle.mr_effect.specs.declared.effect.Effect.TheVariants as effect
 use Rattle.mr_cmd_shared.specs.Answered.{Answered}
 use Rattle.mr_cmd_shared.specs.Collections.{Change, telling, changing}
+use Rattle.mr_cmd_shared.specs.Numbers.{count_or_one}
 use Rattle.mr_keyspace.specs.Cuts.{cut}
 use Rattle.mr_cmd_set.specs.Members.{Members, as_set, common, minus, drawn}
 
@@ -72,10 +73,6 @@ abbrev pub srem_answer : Bytes → List Bytes → Option Entry → Answered
 srem_answer k xs = changing sets (removing k xs)
 
 -- ---- SPOP, SRANDMEMBER: without a count one member, or nil where there is none; else an array
-abbrev pub count_or_one : Option ℕ → ℕ
-count_or_one None = 1
-count_or_one (Some n) = n
-
 abbrev pub first_bulk : List Bytes → Tree
 first_bulk [] = reply.null_bulk
 first_bulk (x ∷ xs) = reply.bytes x

@@ -3,7 +3,7 @@ ghost use Rattle.std.specs.Prelude.{◌≡◌, ◌++◌, ◌%◌, ◌<◌, [], �
 ghost use Rattle.std.specs.FinMap as map;
 ghost use Rattle.mr_resp.specs.ReplyView.{view};
 ghost use Rattle.mr_cmd_set.specs.Members.{drawn, as_set};
-ghost use Rattle.mr_cmd_set.specs.Grouping.{texts, group_effects};
+ghost use Rattle.mr_cmd_set.specs.Grouping.{lent, group_effects};
 ghost use Rattle.mr_cmd_set.specs.declared.grouping.Write.TheVariants as write;
 ghost use Rattle.mr_cmd_set.specs.Sets.{drawn_reply, taken, taking, first_bulk, one_bulk, bulks, Makes};
 
@@ -43,8 +43,8 @@ struct Drawn<'d> {
 impl<'d> Drawn<'d> {
     /// Puts the next members behind those that were drawn, at most so many.
     fn extend(&mut self, members: Members<'d>, count: usize) -> Result<(), AllocError>
-        ensures { OnOk result (texts self.new.items.items ≡
-            texts self.old.items.items ++ take count members.entry) }
+        ensures { OnOk result (lent self.new.items.items ≡
+            lent self.old.items.items ++ take count members.entry) }
     {
         let mut members = members;
         for _ in 0..count {
@@ -63,7 +63,7 @@ fn draw<'d>(
     word: u64,
     count: usize,
 ) -> Result<Drawn<'d>, AllocError>
-    ensures { IfOk result (λ d. texts d.items.items ≡ drawn word count (map.keys set.now)) }
+    ensures { IfOk result (λ d. lent d.items.items ≡ drawn word count (map.keys set.now)) }
 {
     let len = set.len();
     let count = count.min(len);
@@ -80,7 +80,7 @@ fn draw<'d>(
 
 /// The answer of the drawn members, in the order in which they were drawn.
 fn bulks_of(alloc: Global, drawn: &[&[u8]]) -> Result<Reply, AllocError>
-    ensures { IfOk result (λ r. view r ≡ bulks (texts drawn.now)) }
+    ensures { IfOk result (λ r. view r ≡ bulks (lent drawn.now)) }
 {
     let mut replies = Vec::with_capacity(alloc, drawn.len())?;
     for member in drawn {
@@ -91,7 +91,7 @@ fn bulks_of(alloc: Global, drawn: &[&[u8]]) -> Result<Reply, AllocError>
 
 /// The drawn members, in byte order.
 fn in_order<'d>(alloc: Global, drawn: &[&'d [u8]]) -> Result<SliceMap<'d, ()>, AllocError>
-    ensures { IfOk result (λ s. s ≡ as_set (texts drawn.now)) }
+    ensures { IfOk result (λ s. s ≡ as_set (lent drawn.now)) }
 {
     let mut members = SliceMap::new(alloc);
     for member in drawn {

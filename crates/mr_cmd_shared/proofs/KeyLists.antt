@@ -1,14 +1,16 @@
 -- Lists of keys that are taken out of a dataset.
-use Rattle.std.proofs.Common.{ℕ, ◌<◌, get_or, take, add-zero, ◌≡◌, ℤ, List, [], ◌∷◌, ◌++◌, length, length-append, append_assoc, ◌+◌, Bool, true, false, ◌&&◌, cond, Option, Some, None, refl, sym, ◌∙◌, ap, subst}
+use Rattle.std.proofs.Common.{ℕ, ◌<◌, get_or, take, add-zero, ◌≡◌, ℤ, List, [], ◌∷◌, ◌++◌, length, length-append, append_assoc, ◌+◌, Bool, true, false, cond, Option, Some, None, refl, sym, ◌∙◌, ap, subst}
 use Rattle.std.specs.Prelude.{◌||◌, is_some, if◌then◌else◌, IsTrue, not, map}
 use Rattle.std.specs.List.{list_all}
 use Rattle.std.specs.Option.{option_and_then}
 use Rattle.std.specs.FinMap.{get, remove}
 use Rattle.std.proofs.lemmas.List.{take_more, map-append}
+use Rattle.std.proofs.lemmas.Bool.{and_from}
 use Rattle.mr_map.specs.Bytes.{Bytes}
 use Rattle.mr_bytes.specs.Words.{fits}
+use Rattle.mr_bytes.proofs.Both.{first, second}
 use Rattle.mr_keyspace.specs.Dataset.{Dataset}
-use Rattle.mr_data.specs.Dataset.{is_expired, live, seen}
+use Rattle.mr_data.specs.Dataset.{is_expired, live, seen, IsDataset}
 use Rattle.mr_keyspace.specs.Changes.{change}
 use Rattle.mr_data.specs.Meaning.{apply, apply_all}
 use Rattle.mr_data.proofs.Seeing.{get-seen}
@@ -26,28 +28,16 @@ pub apply_all-append : (xs ys : List Effect) (m : Dataset) → apply_all (xs ++ 
 apply_all-append [] ys m = refl
 apply_all-append (x ∷ xs) ys m = elim (apply x m) as (λ o. option_and_then (apply_all (xs ++ ys)) o ≡ option_and_then (apply_all ys) (option_and_then (apply_all xs) o)) [ None ↦ refl | Some n ↦ apply_all-append xs ys n ]
 
-first : (a b : Bool) → a && b ≡ true → a ≡ true
-first true b h = refl
-first false b h = cc
-
-second : (a b : Bool) → a && b ≡ true → b ≡ true
-second true b h = h
-second false b h = cc
-
 -- one DEL for each key leads to the dataset without them
 pub dels_lead : (ks : List Bytes) (m : Dataset) → IsTrue (list_all fits ks) → apply_all (dels ks) m ≡ Some (without ks m)
 unfolding apply change
 dels_lead [] m h = refl
 dels_lead (k ∷ ks) m h = ap (λ b. option_and_then (apply_all (dels ks)) (if b then Some (remove m k) else None)) (first _ _ h) ∙ dels_lead ks (remove m k) (second _ _ h)
 
-both : (a b : Bool) → a ≡ true → b ≡ true → a && b ≡ true
-both true b p q = q
-both false b p q = cc
-
 pub chosen_fits : (test : Option Entry → Bool) (ks : List Bytes) (m : Dataset) → IsTrue (list_all fits ks) → IsTrue (list_all fits (chosen test ks m))
 chosen_fits test [] m h = refl
 chosen_fits test (k ∷ ks) m h = elim (test (get m k)) as (λ b. IsTrue (list_all fits (if b then k ∷ chosen test ks (remove m k) else chosen test ks m))) [
-  | true ↦ both _ _ (first _ _ h) (chosen_fits test ks (remove m k) (second _ _ h))
+  | true ↦ and_from _ _ (first _ _ h) (chosen_fits test ks (remove m k) (second _ _ h))
   | false ↦ chosen_fits test ks m (second _ _ h)
 ]
 
@@ -256,3 +246,13 @@ not_true false h = refl
 pub not_false : (b : Bool) → false ≡ not b → b ≡ true
 not_false true h = refl
 not_false false h = cc
+
+-- ---- what a dataset keeps, it keeps without expired keys
+live_is : (now : ℤ) (o : Option Entry) (e : Entry) → live now o ≡ Some e → o ≡ Some e
+live_is now None e h = h
+live_is now (Some f) e h = elim (is_expired now f.deadline) as (λ b. (let none : Option Entry = None in cond b none (Some f)) ≡ Some e → Some f ≡ Some e) [ true ↦ λ i. cc | false ↦ λ i. i ] h
+
+pub purged_kept : (now : ℤ) (ks : List Bytes) (m : Dataset) → IsDataset m → IsDataset (purged now ks m)
+purged_kept now ks m h = record {
+  entries = λ k e is. h.entries k e (elim (has ks k) as (λ b. cond b (live now (get m k)) (get m k) ≡ Some e → get m k ≡ Some e) [ true ↦ λ i. live_is now (get m k) e i | false ↦ λ i. i ] (sym (get_purged now ks m k) ∙ is));
+}

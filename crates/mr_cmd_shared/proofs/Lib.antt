@@ -6,3 +6,4 @@ pub mod PlanLemmas
 pub mod AfterAndReply
 pub mod OnceLemmas
 pub mod LiveLemmas
+pub mod GroupLemmas

@@ -18,6 +18,9 @@ kept answer before = record { reply = answer; entry = before; effects = [] }
 abbrev pub wrong_kind : Tree
 wrong_kind = reply.error (codes "WRONGTYPE Operation against a key holding the wrong kind of value")
 
+abbrev pub overflow : Tree
+overflow = reply.error (codes "ERR increment or decrement would overflow")
+
 abbrev pub done : Tree
 done = reply.simple (codes "OK")
 

@@ -5,3 +5,4 @@ pub mod Outcomes
 pub mod Commands
 pub mod Collections
 pub mod Groups
+pub mod Numbers

@@ -14,11 +14,11 @@ pub struct Taken<'a> {
 
 impl<'a> Model for Taken<'a> {
     ghost use Rattle.std.specs.Prelude.{List, ℕ};
-    ghost use Rattle.mr_cmd_shared.specs.Taken.{texts};
+    ghost use Rattle.mr_cmd_shared.specs.Taken.{lent};
 
     ghost Value = { List (List ℕ) };
 
-    ghost view = { λ a. texts a.keys.keys };
+    ghost view = { λ a. lent a.keys.keys };
 }
 
 impl<'a> Taken<'a> {

@@ -17,14 +17,14 @@ use Rattle.mr_resp.specs.Replies as reply
 use Rattle.mr_resp.specs.Replies.{Tree}
 use Rattle.mr_resp.specs.ReplyView.{trees_of}
 use Rattle.mr_effect.specs.declared.effect.Effect.TheVariants as effect
-use Rattle.mr_keyspace.specs.Steps.{texts as strings, held, text_of}
+use Rattle.mr_keyspace.specs.Steps.{strings, held, text_of}
 use Rattle.mr_keyspace.specs.declared.value.Value.{Value}
 use Rattle.mr_keyspace.specs.declared.value.Value.TheVariants as value
 use Rattle.mr_keyspace.specs.declared.value.Entry.{Entry}
-use Rattle.mr_cmd_shared.specs.Answered.{kept, wrong_kind}
+use Rattle.mr_cmd_shared.specs.Answered.{kept, wrong_kind, overflow}
 use Rattle.mr_cmd_string.specs.Texts.{get_reply, strlen_reply, getrange_reply, found, text_or_null, of_value}
 use Rattle.mr_cmd_string.specs.Setting.{holds_other, is_other}
-use Rattle.mr_cmd_string.specs.Changing.{rewritten, length_of, too_long, lengthened, appended, put_over, overflow, increase_from, increase_text}
+use Rattle.mr_cmd_string.specs.Changing.{rewritten, length_of, too_long, lengthened, appended, put_over, increase_from, increase_text}
 use Rattle.mr_cmd_string.specs.Laws.{AppendAnswersLength, AppendIsRead, SetRangeIsRead, IncreaseIsRead, IncreaseAdds, MGetIsGetOfEach}
 
 -- ---- APPEND

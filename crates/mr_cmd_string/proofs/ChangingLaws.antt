@@ -1,16 +1,17 @@
 -- The effects of commands that change a text where it is are faithful.
-use Rattle.std.proofs.Common.{ℕ, ℤ, pos, ◌≡◌, ◌≤◌, ◌<◌, ◌+◌, ◌^◌, List, [], ◌∷◌, ◌++◌, length, true, false, ◌&&◌, Option, Some, None, refl, sym, ◌∙◌, ap, arith}
+use Rattle.std.proofs.Common.{ℕ, ℤ, pos, ◌≡◌, ◌≤◌, ◌+◌, List, [], ◌∷◌, ◌++◌, length, true, false, ◌&&◌, Option, Some, None, refl, sym, ◌∙◌, ap, arith}
 use Rattle.std.specs.Prelude.{◌+ℤ◌, ◌==◌, codes, int_le, if◌then◌else◌, All}
 use Rattle.std.specs.Option.{option_map, option_and_then}
 use Rattle.std.specs.FinMap.{get}
 use Rattle.std.specs.Fmt.{signed_decimal}
-use Rattle.std.proofs.lemmas.Bool.{lt-ltb, le-leb}
+use Rattle.std.proofs.lemmas.Bool.{le-leb, and_from}
 use Rattle.mr_map.specs.Bytes.{Bytes}
 use Rattle.mr_bytes.specs.Number.{is_i64, number_of}
 use Rattle.mr_bytes.specs.Texts.{overwritten}
 use Rattle.mr_inline.specs.Limits.{word_limit}
 use Rattle.mr_bytes.specs.Words.{fits}
 use Rattle.mr_bytes.proofs.Texts.{ends_within}
+use Rattle.mr_bytes.proofs.Numbers.{equal_bytes, is_i64-pos}
 use Rattle.mr_resp.specs.Replies as reply
 use Rattle.mr_resp.specs.Replies.{Tree}
 use Rattle.mr_effect.specs.Effects.{is_place}
@@ -18,7 +19,7 @@ use Rattle.mr_effect.specs.declared.effect.Effect.{Effect}
 use Rattle.mr_effect.specs.declared.effect.Effect.TheVariants as effect
 use Rattle.mr_keyspace.specs.Dataset.{Dataset, put_at}
 use Rattle.mr_keyspace.specs.Texts.{fitting}
-use Rattle.mr_keyspace.specs.Steps.{texts as strings, held, on, same, entry_of, deadline_of, append_step, set_range_step, increase_step}
+use Rattle.mr_keyspace.specs.Steps.{strings, held, on, same, entry_of, deadline_of, append_step, set_range_step, increase_step}
 use Rattle.mr_keyspace.specs.Changes.{change}
 use Rattle.mr_data.specs.Meaning.{apply, apply_all}
 use Rattle.mr_keyspace.specs.declared.value.Value.TheVariants as value
@@ -26,8 +27,9 @@ use Rattle.mr_keyspace.specs.declared.value.Entry.{Entry}
 use Rattle.mr_keyspace.proofs.Puts.{put_same}
 use Rattle.mr_data.proofs.Running.{one_step}
 use Rattle.mr_cmd_shared.proofs.Laws.{IsFaithfulAnswer, stays_faithful, none_short, one_short}
-use Rattle.mr_cmd_string.specs.Changing.{holds, rewritten, length_of, too_long, lengthened, appended, append_answer, put_over, setrange_answer, overflow, increase_from, increase_text, increase_answer}
-use Rattle.mr_cmd_string.proofs.SameTexts.{is_this_text, bytes_itself, both}
+use Rattle.mr_cmd_shared.specs.Answered.{overflow}
+use Rattle.mr_cmd_string.specs.Changing.{holds, rewritten, length_of, too_long, lengthened, appended, append_answer, put_over, setrange_answer, increase_from, increase_text, increase_answer}
+use Rattle.mr_cmd_string.proofs.SameTexts.{is_this_text}
 use Rattle.mr_effect.proofs.Texts.{short_effect}
 use Rattle.mr_effect.specs.Spelling.{IsShort}
 
@@ -40,7 +42,7 @@ holds_is text None h = cc
 holds_is text (Some e) h = ap (λ v. let f : Entry = record { value = v; deadline = e.deadline } in Some f) (sym (is_this_text text e.value h))
 
 is_holds : (text : Bytes) (o : Option Entry) → with_text text o ≡ o → holds text o ≡ true
-is_holds text o h = ap (holds text) (sym h) ∙ bytes_itself text
+is_holds text o h = ap (holds text) (sym h) ∙ equal_bytes text
 
 rewritten_faithful : (text : Bytes) (made : Effect) (answer : Tree) (k : Bytes) (m : Dataset) → IsShort made → apply made m ≡ Some (put_at m k (with_text text (get m k))) → IsFaithfulAnswer (rewritten text made answer (get m k)) k m
 rewritten_faithful text made answer k m few does = record {
@@ -80,15 +82,12 @@ append_faithful k more m fit = elim (held (strings []) (get m k)) as (λ h. held
 ] refl
 
 -- ---- SETRANGE
-small : (n : ℕ) → n < 2 ^ 63 → is_i64 (pos n) ≡ true
-small n h = lt-ltb n (2 ^ 63) h
-
 put_over_does : (k : Bytes) (offset : ℕ) (part text : Bytes) (m : Dataset) → fits k && fits part ≡ true → held (strings []) (get m k) ≡ Some text → (length part == 0) ≡ false → fits (overwritten offset part text) ≡ true → apply (effect.SetRange k (pos offset) part) m ≡ Some (put_at m k (with_text (overwritten offset part text) (get m k)))
 unfolding change
 put_over_does k offset part text m fit is some within =
     let ends : offset + length part ≤ word_limit = ends_within text part offset within in
-    let place : is_place (pos offset) ≡ true = both (is_i64 (pos offset)) (int_le (pos 0) (pos offset)) (small offset (omega (arith, ends))) (le-leb 0 offset (omega arith)) in
-    one_step k (effect.SetRange k (pos offset) part) (set_range_step (pos offset) part) m (record { possible = both (is_place (pos offset)) (fits k && fits part) place fit; short = short_effect (effect.SetRange k (pos offset) part) (omega arith); is = λ n. refl })
+    let place : is_place (pos offset) ≡ true = and_from (is_i64 (pos offset)) (int_le (pos 0) (pos offset)) (is_i64-pos offset (omega (arith, ends))) (le-leb 0 offset (omega arith)) in
+    one_step k (effect.SetRange k (pos offset) part) (set_range_step (pos offset) part) m (record { possible = and_from (is_place (pos offset)) (fits k && fits part) place fit; short = short_effect (effect.SetRange k (pos offset) part) (omega arith); is = λ n. refl })
     ∙ ap (λ b. option_map (put_at m k) ((if b then same (strings []) else on (strings []) (λ x. fitting (overwritten offset part x))) (get m k))) some
     ∙ ap (λ h. option_map (put_at m k) (option_and_then (λ x. option_map (entry_of (strings []) (deadline_of (get m k))) (fitting (overwritten offset part x))) h)) is
     ∙ ap (λ b. option_map (put_at m k) (option_map (entry_of (strings []) (deadline_of (get m k))) (if b then Some (overwritten offset part text) else None))) within
@@ -107,7 +106,7 @@ increase_does : (k : Bytes) (by : ℤ) (text : Bytes) (n : ℤ) (m : Dataset) �
 unfolding change
 increase_does k by text n m fit number is spelled within =
     let put : Option Bytes → Option Dataset = λ o. option_map (put_at m k) (option_map (entry_of (strings (codes "0")) (deadline_of (get m k))) o) in
-    one_step k (effect.Increase k by) (increase_step by) m (record { possible = both (is_i64 by) (fits k) number fit; short = short_effect (effect.Increase k by) (omega arith); is = λ n. refl })
+    one_step k (effect.Increase k by) (increase_step by) m (record { possible = and_from (is_i64 by) (fits k) number fit; short = short_effect (effect.Increase k by) (omega arith); is = λ n. refl })
     ∙ ap (λ h. option_map (put_at m k) (option_and_then (λ x. option_map (entry_of (strings (codes "0")) (deadline_of (get m k))) (option_map signed_decimal (option_and_then (λ a. if is_i64 (a +ℤ by) then Some (a +ℤ by) else None) (number_of x)))) h)) is
     ∙ ap (λ a. put (option_map signed_decimal (option_and_then (λ b. if is_i64 (b +ℤ by) then Some (b +ℤ by) else None) a))) spelled
     ∙ ap (λ b. put (option_map signed_decimal (if b then Some (n +ℤ by) else None))) within

@@ -3,10 +3,11 @@ use Rattle.std.proofs.Common.{ℕ, pos, List, [], ◌∷◌, map, refl, subst}
 use Rattle.std.specs.Prelude.{neg_ℤ, IsTrue}
 use Rattle.std.specs.List.{list_all}
 use Rattle.mr_bytes.specs.Words.{fits}
+use Rattle.mr_bytes.proofs.Both.{first, second}
 use Rattle.mr_cmd_string.specs.Carried.{text_words}
 use Rattle.mr_arguments.specs.Spelling.{Word, Number, in_a_row}
 use Rattle.mr_cmd_string.specs.Spelled.{AreOfTexts}
-use Rattle.mr_arguments.proofs.FitLemmas.{carried, carried-words, first, second, both, parts_fit}
+use Rattle.mr_arguments.proofs.FitLemmas.{carried, carried-words, both, parts_fit}
 use Rattle.mr_cmd_string.specs.declared.text_ask.TextAsk.{TextAsk}
 use Rattle.mr_cmd_string.specs.declared.text_ask.TextAsk.TheVariants as text
 use Rattle.mr_cmd_string.specs.declared.text_ask.Amount.TheVariants as amount

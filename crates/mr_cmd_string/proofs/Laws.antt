@@ -5,8 +5,10 @@ use Rattle.std.proofs.lemmas.Bool.Decides.{nat_tests}
 use Rattle.std.specs.List.{list_all}
 use Rattle.std.specs.Option.{option_and_then}
 use Rattle.std.specs.FinMap.{get}
+use Rattle.std.proofs.lemmas.Bool.{and_from}
 use Rattle.mr_map.specs.Bytes.{Bytes}
 use Rattle.mr_bytes.specs.Words.{fits}
+use Rattle.mr_bytes.proofs.Both.{first}
 use Rattle.mr_resp.specs.Replies as reply
 use Rattle.mr_resp.specs.Replies.{Tree}
 use Rattle.mr_resp.specs.ReplyView.{trees_of}
@@ -44,16 +46,12 @@ use Rattle.mr_cmd_string.specs.declared.deadlines.NewDeadline.TheVariants as dea
 use Rattle.mr_cmd_string.specs.Parts.{amount_number}
 use Rattle.mr_cmd_string.specs.Changing.{append_answer, setrange_answer, increase_answer}
 use Rattle.mr_cmd_string.specs.Commands.{command, HasNumber, HasLimit, IsLimited}
-use Rattle.mr_cmd_string.proofs.SameTexts.{until_is, until_itself, both}
+use Rattle.mr_cmd_string.proofs.SameTexts.{until_is, until_itself}
 use Rattle.mr_cmd_string.proofs.ChangingLaws.{append_faithful, setrange_faithful, increase_faithful}
 use Rattle.mr_cmd_string.proofs.SettingAllLaws.{mset_faithful, msetnx_faithful, mset_texts, msetnx_texts}
 use Rattle.mr_effect.proofs.Texts.{short_effect}
 use Rattle.mr_resp.specs.Usual.{commands}
 use Rattle.mr_effect.specs.Spelling.{IsShort}
-
-first : (a b : Bool) → a && b ≡ true → a ≡ true
-first true b h = refl
-first false b h = cc
 
 of_two : (a b : Bool) → a && (b && true) ≡ true → a && b ≡ true
 of_two true true h = refl
@@ -70,7 +68,7 @@ effect_leads : (k text : Bytes) (new : NewDeadline) (m : Dataset) → IsNamed ne
 unfolding apply change
 effect_leads k text deadline.Endless m named h = ap (λ b. if b then Some (put_at m k (Some (plain text))) else None) h
 effect_leads k text deadline.Kept m named h = ap (λ b. if b then Some (put_at m k (Some (text_until text (deadline_of (get m k))))) else None) h
-effect_leads k text (deadline.At d) m named h = ap (λ b. if b then Some (put_at m k (Some (text_until text (Some d)))) else None) (both (is_deadline d) (fits k && fits text) named h)
+effect_leads k text (deadline.At d) m named h = ap (λ b. if b then Some (put_at m k (Some (text_until text (Some d)))) else None) (and_from (is_deadline d) (fits k && fits text) named h)
 
 effect_short : (k text : Bytes) (new : NewDeadline) → IsShort (set_effect k text new)
 effect_short k text deadline.Endless = short_effect (effect.Set k text) (omega arith)

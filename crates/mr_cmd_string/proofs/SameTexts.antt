@@ -1,21 +1,16 @@
 -- Texts that are one.
-use Rattle.std.proofs.Common.{ℕ, ◌≡◌, List, Bool, true, false, ◌&&◌, refl, ◌∙◌, ap, rules}
+use Rattle.std.proofs.Common.{◌≡◌, List, Bool, true, false, ◌&&◌, refl, ◌∙◌, ap, rules}
 use Rattle.std.specs.Prelude.{ℤ, Option, Some, None}
 use Rattle.std.specs.Ordering.{int_eq}
 use Rattle.std.proofs.lemmas.Bool.Decides.{Decides-int_eq}
 use Rattle.std.specs.Str.{bytes_eq}
-use Rattle.std.proofs.lemmas.Slice.Eq.{bytes_eq-Decides}
+use Rattle.std.proofs.lemmas.Bool.{and_from}
+use Rattle.mr_bytes.proofs.Numbers.{same_bytes, equal_bytes}
 use Rattle.mr_map.specs.Bytes.{Bytes}
 use Rattle.mr_keyspace.specs.declared.value.Value.{Value}
 use Rattle.mr_keyspace.specs.declared.value.Value.TheVariants as value
 use Rattle.mr_keyspace.specs.declared.value.Entry.{Entry}
 use Rattle.mr_cmd_string.specs.Setting.{text_until, is_text, is_same, holds_until, plain, is_plain}
-
-pub same_bytes : (xs ys : List ℕ) → bytes_eq xs ys ≡ true → xs ≡ ys
-same_bytes xs ys h = search (rules, bytes_eq-Decides)
-
-pub bytes_itself : (xs : List ℕ) → bytes_eq xs xs ≡ true
-bytes_itself xs = search (rules, bytes_eq-Decides)
 
 pub is_this_text : (text : Bytes) (v : Value) → is_text text v ≡ true → v ≡ value.Text text
 is_this_text text (value.Text t) h = ap value.Text (same_bytes t text h)
@@ -23,10 +18,6 @@ is_this_text text (value.Hash t) h = cc
 is_this_text text (value.List t) h = cc
 is_this_text text (value.Set t) h = cc
 is_this_text text (value.SortedSet t) h = cc
-
-pub both : (a b : Bool) → a ≡ true → b ≡ true → a && b ≡ true
-both true b h i = i
-both false b h i = cc
 
 -- ---- deadlines that are one
 same_number : (x z : ℤ) → int_eq x z ≡ true → x ≡ z
@@ -59,7 +50,7 @@ until_is text d (Some e) h =
     ∙ ap (λ (x : Option ℤ). Some (text_until text x)) (same_deadline e.deadline d parts.0)
 
 pub until_itself : (text : Bytes) (d : Option ℤ) → holds_until text d (Some (text_until text d)) ≡ true
-until_itself text d = both (is_same d d) (bytes_eq text text) (deadline_itself d) (bytes_itself text)
+until_itself text d = and_from (is_same d d) (bytes_eq text text) (deadline_itself d) (equal_bytes text)
 
 pub plain_is : (text : Bytes) (o : Option Entry) → is_plain text o ≡ true → o ≡ Some (plain text)
 plain_is text o h = until_is text None o h

@@ -1,39 +1,38 @@
 -- The effects of commands that set texts at several keys are faithful.
-use Rattle.std.proofs.Common.{ℤ, ◌≡◌, List, [], ◌∷◌, Bool, true, false, ◌&&◌, not, cond, Option, Some, None, refl, sym, ◌∙◌, ap, T, ℕ, ◌<◌, ◌≤◌, ◌+◌, ◌*◌, length, arith}
+use Rattle.std.proofs.Common.{ℤ, ◌≡◌, List, [], ◌∷◌, Bool, true, false, not, cond, Option, Some, None, refl, sym, ◌∙◌, ap, ℕ, ◌<◌, ◌≤◌, ◌+◌, ◌*◌, length, arith}
 use Rattle.std.specs.Prelude.{IsTrue, filter, if◌then◌else◌, pos, All}
 use Rattle.std.specs.List.{AllByRecursion, list_all}
 use Rattle.std.specs.Option.{option_and_then}
-use Rattle.std.specs.Ordering.{is_eq, is_lt, ordering_reverse}
-use Rattle.std.specs.declared.cmp.Ordering.{Ordering}
-use Rattle.std.specs.declared.cmp.Ordering.TheVariants.{Less, Equal, Greater}
-use Rattle.std.specs.FinMap.{empty, get, insert, entries, find, is_sorted, entries_sorted, get-entries, get-empty, get-insert, same_map, len, len-insert, len-entries, len-empty, contains_key}
-use Rattle.std.specs.FinMap.Entries.{below_all}
+use Rattle.std.specs.FinMap.{empty, get, insert, entries, find, get-entries, get-empty, get-insert, same_map, len, len-insert, len-entries, len-empty, contains_key}
 use Rattle.std.proofs.lemmas.Cmp.{nat_list_cmp_total}
 use Rattle.std.proofs.lemmas.List.Elements.{All-nil, All-cons}
 use Rattle.std.proofs.lemmas.Map.Lookups.{exact_bytes}
+use Rattle.std.proofs.lemmas.Bool.{and_from}
 use Rattle.mr_map.specs.Bytes.{Bytes, ByteMap, bytes_cmp}
 use Rattle.mr_bytes.specs.Words.{fits}
+use Rattle.mr_bytes.proofs.Both.{first, second}
+use Rattle.mr_bytes.proofs.Numbers.{equal_bytes}
 use Rattle.mr_resp.specs.Replies as reply
 use Rattle.mr_resp.specs.Replies.{Tree}
 use Rattle.mr_effect.specs.Effects.{pair_fits}
 use Rattle.mr_keyspace.specs.Dataset.{Dataset}
-use Rattle.mr_keyspace.specs.Collections.{with_fields}
+use Rattle.mr_keyspace.specs.Collections.{with_fields, last_values}
 use Rattle.mr_keyspace.specs.Changes.{change, with_texts}
 use Rattle.mr_data.specs.Meaning.{apply, apply_all}
 use Rattle.mr_keyspace.specs.declared.value.Entry.{Entry}
 use Rattle.mr_data.proofs.Fitting.{no_fields, with_fields_fit}
+use Rattle.mr_data.proofs.Entries.{all_map, AreApart, entries_apart, own_entries, missing}
 use Rattle.mr_keyspace.proofs.Maps.{insert_same, same_key}
 use Rattle.mr_arguments.specs.Pairing.{unpaired}
 use Rattle.mr_cmd_shared.specs.Taken.{is_key}
 use Rattle.mr_cmd_shared.specs.Answered.{done}
 use Rattle.mr_cmd_shared.specs.Outcomes.{answered}
 use Rattle.mr_cmd_shared.specs.Commands.{Command, on_keys, before, IsFaithful, HasCommandTexts}
-use Rattle.mr_keyspace.proofs.Puts.{is_key_itself, is_key_symm}
 use Rattle.mr_cmd_shared.proofs.Laws.{answered_faithful, IsLeadingAt, leading_at, leading, sent, none_short, one_short}
 use Rattle.mr_cmd_string.specs.Setting.{plain, is_plain}
-use Rattle.mr_cmd_string.specs.SettingAll.{names, last_texts, changed, set_effects, put_all, mset, is_any_there, msetnx}
+use Rattle.mr_cmd_string.specs.SettingAll.{names, changed, set_effects, put_all, mset, is_any_there, msetnx}
 use Rattle.mr_cmd_string.specs.Laws.{MSetIsNoLonger, MSetNxIsNoLonger}
-use Rattle.mr_cmd_string.proofs.SameTexts.{bytes_itself, plain_is, both}
+use Rattle.mr_cmd_string.proofs.SameTexts.{plain_is}
 use Rattle.mr_effect.specs.declared.effect.Effect.TheVariants as effect
 use Rattle.mr_effect.proofs.Texts.{short_effect}
 use Rattle.mr_resp.specs.Usual.{commands, commands-words}
@@ -55,42 +54,10 @@ get_over (p ∷ ps) h m n same q = get_over ps (insert h p.0 p.1) m (insert n p.
     ∙ elim (is_key k p.0) as (λ b. cond b (Some (plain p.1)) (get n k) ≡ over (cond b (Some p.1) (get h k)) (get m k)) [ true ↦ refl | false ↦ same k ]
     ∙ ap (λ o. over o (get m k)) (sym (get-insert nat_list_cmp_total h p.0 p.1 k))) q
 
-get_last : (ps : List Pair) (m : Dataset) (q : Bytes) → get (with_texts ps m) q ≡ over (get (last_texts ps) q) (get m q)
+get_last : (ps : List Pair) (m : Dataset) (q : Bytes) → get (with_texts ps m) q ≡ over (get (last_values ps) q) (get m q)
 get_last ps m q = get_over ps empty m m (λ k. ap (λ o. over o (get m k)) (sym (get-empty bytes_cmp k))) q
 
 -- ---- pairs whose keys are apart
-abbrev AreApart : List Pair → Type 0
-AreApart [] = Unit {0}
-AreApart (e ∷ es) = AllByRecursion (λ (x : Pair). is_key x.0 e.0 ≡ false) es × AreApart es
-
-left : (a b : Bool) → T (a && b) → T a
-left true b h = tt
-left false b h = absurd h
-
-right : (a b : Bool) → T (a && b) → T b
-right true b h = h
-right false b h = absurd h
-
-turned : (r : Ordering) → T (is_lt r) → is_eq (ordering_reverse r) ≡ false
-turned Less h = refl
-turned Equal h = absurd h
-turned Greater h = absurd h
-
-below_apart : (k : Bytes) (es : List Pair) → T (below_all bytes_cmp k es) → AllByRecursion (λ (x : Pair). is_key x.0 k ≡ false) es
-below_apart k [] h = tt
-below_apart k (e ∷ es) h = (ap is_eq (nat_list_cmp_total.antisymm e.0 k) ∙ turned (bytes_cmp k e.0) (left _ _ h), below_apart k es (right (is_lt (bytes_cmp k e.0)) _ h))
-
-sorted_apart : (es : List Pair) → T (is_sorted bytes_cmp es) → AreApart es
-sorted_apart [] h = tt
-sorted_apart (e ∷ es) h = (below_apart e.0 es (left _ _ h), sorted_apart es (right (below_all bytes_cmp e.0 es) _ h))
-
-entries_apart : (h : ByteMap Bytes) → AreApart (entries h)
-entries_apart h = sorted_apart (entries h) (entries_sorted h)
-
-missing : (es : List Pair) (k : Bytes) → AllByRecursion (λ (x : Pair). is_key x.0 k ≡ false) es → find bytes_cmp k es ≡ None
-missing [] k h = refl
-missing (x ∷ xs) k h = ap (λ b. cond b (Some x.1) (find bytes_cmp k xs)) (is_key_symm k x.0 ∙ h.0) ∙ missing xs k h.1
-
 get_apart : (es : List Pair) (m : Dataset) (q : Bytes) → AreApart es → get (with_texts es m) q ≡ over (find bytes_cmp q es) (get m q)
 get_apart [] m q a = refl
 get_apart (e ∷ es) m q a =
@@ -102,27 +69,11 @@ get_apart (e ∷ es) m q a =
     ] refl
 
 -- the last texts alone do what all do
-with_entries : (ps : List Pair) (m : Dataset) → with_texts (entries (last_texts ps)) m ≡ with_texts ps m
+with_entries : (ps : List Pair) (m : Dataset) → with_texts (entries (last_values ps)) m ≡ with_texts ps m
 with_entries ps m = same_map nat_list_cmp_total exact_bytes _ _ (λ q.
-    get_apart (entries (last_texts ps)) m q (entries_apart (last_texts ps))
-    ∙ ap (λ o. over o (get m q)) (sym (get-entries (last_texts ps) q))
+    get_apart (entries (last_values ps)) m q (entries_apart (last_values ps))
+    ∙ ap (λ o. over o (get m q)) (sym (get-entries (last_values ps) q))
     ∙ sym (get_last ps m q))
-
--- each entry is what its key has
-has_own : (e : Pair) (es xs : List Pair) → AllByRecursion (λ (x : Pair). is_key x.0 e.0 ≡ false) xs → AllByRecursion (λ (x : Pair). find bytes_cmp x.0 es ≡ Some x.1) xs → AllByRecursion (λ (x : Pair). find bytes_cmp x.0 (e ∷ es) ≡ Some x.1) xs
-has_own e es [] a h = tt
-has_own e es (x ∷ xs) a h = (ap (λ b. cond b (Some e.1) (find bytes_cmp x.0 es)) a.0 ∙ h.0, has_own e es xs a.1 h.1)
-
-own : (es : List Pair) → AreApart es → AllByRecursion (λ (x : Pair). find bytes_cmp x.0 es ≡ Some x.1) es
-own [] a = tt
-own (e ∷ es) a = (ap (λ b. cond b (Some e.1) (find bytes_cmp e.0 es)) (is_key_itself e.0), has_own e es es a.0 (own es a.1))
-
-pub all_map : {X : Type 0} (P Q : X → Type 0) → ((x : X) → P x → Q x) → (xs : List X) → AllByRecursion P xs → AllByRecursion Q xs
-all_map P Q f [] h = tt
-all_map P Q f (x ∷ xs) h = (f x h.0, all_map P Q f xs h.1)
-
-pub own_entries : (h : ByteMap Bytes) → AllByRecursion (λ (x : Pair). get h x.0 ≡ Some x.1) (entries h)
-own_entries h = all_map _ _ (λ x is. get-entries h x.0 ∙ is) (entries h) (own (entries h) (entries_apart h))
 
 -- ---- the keys that change
 abbrev is_new : Dataset → Pair → Bool
@@ -145,45 +96,37 @@ itself m [] = tt
 itself m (e ∷ es) = (refl, itself m es)
 
 with_changed : (ps : List Pair) (m : Dataset) → with_texts (changed ps m) m ≡ with_texts ps m
-with_changed ps m = skipped (entries (last_texts ps)) m m (entries_apart (last_texts ps)) (itself m (entries (last_texts ps))) ∙ with_entries ps m
+with_changed ps m = skipped (entries (last_values ps)) m m (entries_apart (last_values ps)) (itself m (entries (last_values ps))) ∙ with_entries ps m
 
 none_left : (m : Dataset) (es : List Pair) → AllByRecursion (λ (x : Pair). get m x.0 ≡ Some (plain x.1)) es → filter (is_new m) es ≡ []
 none_left m [] a = refl
-none_left m (e ∷ es) a = ap (λ b. cond (not b) (e ∷ filter (is_new m) es) (filter (is_new m) es)) (ap (is_plain e.1) a.0 ∙ bytes_itself e.1) ∙ none_left m es a.1
+none_left m (e ∷ es) a = ap (λ b. cond (not b) (e ∷ filter (is_new m) es) (filter (is_new m) es)) (ap (is_plain e.1) a.0 ∙ equal_bytes e.1) ∙ none_left m es a.1
 
 none_changed : (ps : List Pair) (m : Dataset) → with_texts ps m ≡ m → changed ps m ≡ []
-none_changed ps m same = none_left m (entries (last_texts ps)) (all_map _ _ (λ x is. ap (λ (n : Dataset). get n x.0) (sym same) ∙ get_last ps m x.0 ∙ ap (λ o. over o (get m x.0)) is) (entries (last_texts ps)) (own_entries (last_texts ps)))
+none_changed ps m same = none_left m (entries (last_values ps)) (all_map _ _ (λ x is. ap (λ (n : Dataset). get n x.0) (sym same) ∙ get_last ps m x.0 ∙ ap (λ o. over o (get m x.0)) is) (entries (last_values ps)) (own_entries (last_values ps)))
 
 -- ---- words within the limit
-first : (a b : Bool) → a && b ≡ true → a ≡ true
-first true b h = refl
-first false b h = cc
-
-second : (a b : Bool) → a && b ≡ true → b ≡ true
-second true b h = h
-second false b h = cc
-
 all_pairs : (es : List Pair) → AllByRecursion (λ (x : Pair). IsTrue (fits x.0) × IsTrue (fits x.1)) es → list_all pair_fits es ≡ true
 all_pairs [] h = refl
-all_pairs (e ∷ es) h = both (pair_fits e) _ (both (fits e.0) (fits e.1) h.0.0 h.0.1) (all_pairs es h.1)
+all_pairs (e ∷ es) h = and_from (pair_fits e) _ (and_from (fits e.0) (fits e.1) h.0.0 h.0.1) (all_pairs es h.1)
 
 all_filter : (p q : Pair → Bool) (xs : List Pair) → list_all p xs ≡ true → list_all p (filter q xs) ≡ true
 all_filter p q [] h = refl
 all_filter p q (x ∷ xs) h = elim (q x) as (λ b. list_all p (cond b (x ∷ filter q xs) (filter q xs)) ≡ true) [
-  | true ↦ both (p x) _ (first (p x) _ h) (all_filter p q xs (second (p x) _ h))
+  | true ↦ and_from (p x) _ (first (p x) _ h) (all_filter p q xs (second (p x) _ h))
   | false ↦ all_filter p q xs (second (p x) _ h)
 ]
 
 changed_fit : (ps : List Pair) (m : Dataset) → list_all pair_fits ps ≡ true → list_all pair_fits (changed ps m) ≡ true
-changed_fit ps m fit = all_filter pair_fits (is_new m) (entries (last_texts ps)) (all_pairs (entries (last_texts ps)) (all_map _ _ (λ x is. with_fields_fit ps empty fit no_fields x.0 x.1 is) (entries (last_texts ps)) (own_entries (last_texts ps))))
+changed_fit ps m fit = all_filter pair_fits (is_new m) (entries (last_values ps)) (all_pairs (entries (last_values ps)) (all_map _ _ (λ x is. with_fields_fit ps empty fit no_fields x.0 x.1 is) (entries (last_values ps)) (own_entries (last_values ps))))
 
 pairs_fit : (ps : List Pair) → list_all fits (unpaired ps) ≡ true → list_all pair_fits ps ≡ true
 pairs_fit [] h = refl
-pairs_fit (p ∷ ps) h = both (pair_fits p) _ (both (fits p.0) (fits p.1) (first (fits p.0) _ h) (first (fits p.1) _ (second (fits p.0) _ h))) (pairs_fit ps (second (fits p.1) _ (second (fits p.0) _ h)))
+pairs_fit (p ∷ ps) h = and_from (pair_fits p) _ (and_from (fits p.0) (fits p.1) (first (fits p.0) _ h) (first (fits p.1) _ (second (fits p.0) _ h))) (pairs_fit ps (second (fits p.1) _ (second (fits p.0) _ h)))
 
 names_fit : (ps : List Pair) → list_all fits (unpaired ps) ≡ true → list_all fits (names ps) ≡ true
 names_fit [] h = refl
-names_fit (p ∷ ps) h = both (fits p.0) _ (first (fits p.0) _ h) (names_fit ps (second (fits p.1) _ (second (fits p.0) _ h)))
+names_fit (p ∷ ps) h = and_from (fits p.0) _ (first (fits p.0) _ h) (names_fit ps (second (fits p.1) _ (second (fits p.0) _ h)))
 
 -- ---- the law
 changed_leads : (xs ps : List Pair) (m : Dataset) → changed ps m ≡ xs → list_all pair_fits xs ≡ true → apply_all (set_effects xs) m ≡ Some (with_texts ps m)
@@ -233,7 +176,7 @@ texts_few [] t = omega arith
 texts_few (p ∷ ps) t = omega (arith, texts_few ps (insert t p.0 p.1), len-insert nat_list_cmp_total t p.0 p.1, one_more (contains_key t p.0) (len t))
 
 changed_few : (ps : List Pair) (m : Dataset) → length (changed ps m) ≤ length ps
-changed_few ps m = omega (arith, filter_few (λ (p : Pair). not (is_plain p.1 (get m p.0))) (entries (last_texts ps)), len-entries (last_texts ps), texts_few ps empty, len-empty bytes_cmp Bytes)
+changed_few ps m = omega (arith, filter_few (λ (p : Pair). not (is_plain p.1 (get m p.0))) (entries (last_values ps)), len-entries (last_values ps), texts_few ps empty, len-empty bytes_cmp Bytes)
 
 unpaired_twice : (ps : List Pair) → length (unpaired ps) ≡ 2 * length ps
 unpaired_twice [] = refl

@@ -1,10 +1,9 @@
 -- Texts that are written over, and numbers that are added to.
-use Rattle.std.proofs.Common.{ℕ, ℤ, pos, ◌≡◌, ◌≤◌, ◌<◌, ◌+◌, ◌-◌, ◌^◌, List, [], ◌∷◌, ◌++◌, length, take, drop, replicate, length-append, length-take, length-drop, Bool, true, false, ◌&&◌, Option, Some, None, FitsSigned, w64, refl, sym, ◌∙◌, ap, subst, arith}
+use Rattle.std.proofs.Common.{ℕ, ℤ, pos, ◌≡◌, ◌≤◌, ◌<◌, ◌+◌, ◌-◌, ◌^◌, List, [], ◌∷◌, ◌++◌, length, take, drop, replicate, length-append, length-take, length-drop, Bool, true, false, ◌&&◌, Option, Some, None, refl, sym, ◌∙◌, ap, subst, arith}
 use Rattle.std.specs.Prelude.{◌+ℤ◌, ◌==◌, codes, is_some, slice_range, if◌then◌else◌}
 use Rattle.std.specs.Fmt.{signed_decimal}
 use Rattle.std.specs.Ordering.{int_eq}
 use Rattle.std.specs.Str.{bytes_eq}
-use Rattle.std.proofs.lemmas.Bool.{lt-ltb}
 use Rattle.std.proofs.lemmas.List.{length-replicate, take-append-drop, append_cancel_left, append_cancel_right}
 use Rattle.std.proofs.lemmas.List.Folds.{drop_split}
 use Rattle.mr_map.specs.Bytes.{Bytes}
@@ -12,21 +11,20 @@ use Rattle.mr_bytes.specs.Number.{is_i64, number_of}
 use Rattle.mr_bytes.specs.Texts.{overwritten}
 use Rattle.mr_bytes.specs.Words.{fits}
 use Rattle.std.proofs.lemmas.Int.{ints}
-use Rattle.mr_bytes.proofs.Numbers.{number_of-signed_decimal}
+use Rattle.mr_bytes.proofs.Numbers.{number_of-signed_decimal, same_bytes, equal_bytes}
 use Rattle.mr_bytes.proofs.Texts.{ends_within}
 use Rattle.mr_resp.specs.Replies as reply
 use Rattle.mr_resp.specs.Replies.{Tree}
 use Rattle.mr_effect.specs.declared.effect.Effect.{Effect}
 use Rattle.mr_effect.specs.declared.effect.Effect.TheVariants as effect
-use Rattle.mr_keyspace.specs.Steps.{texts as strings, held, text_of}
+use Rattle.mr_keyspace.specs.Steps.{strings, held, text_of}
 use Rattle.mr_keyspace.specs.declared.value.Value.{Value}
 use Rattle.mr_keyspace.specs.declared.value.Value.TheVariants as value
 use Rattle.mr_keyspace.specs.declared.value.Entry.{Entry}
-use Rattle.mr_cmd_shared.specs.Answered.{Takes}
+use Rattle.mr_cmd_shared.specs.Answered.{Takes, overflow}
 use Rattle.mr_cmd_shared.proofs.PlanLemmas.{takes_reply}
 use Rattle.mr_cmd_string.specs.Setting.{is_text}
-use Rattle.mr_cmd_string.specs.Changing.{holds, rewritten, length_of, too_long, lengthened, put_over, setrange_answer, overflow, increase_from, increase_text, increase_answer}
-use Rattle.mr_cmd_string.proofs.SameTexts.{same_bytes, bytes_itself}
+use Rattle.mr_cmd_string.specs.Changing.{holds, rewritten, length_of, too_long, lengthened, put_over, setrange_answer, increase_from, increase_text, increase_answer}
 
 -- ---- how long a text is that is written over
 sizes : (t v : List ℕ) (offset n : ℕ) → length (overwritten offset v t) ≡ n → (length t ≤ offset + length v → offset + length v ≡ n) × (offset + length v ≤ length t → length t ≡ n)
@@ -62,9 +60,9 @@ part_there t v offset h =
     let s : List ℕ = slice_range t offset (offset + length v) in
     let rest : List ℕ = drop (offset + length v) t in
     same_tests _ _
-    (λ a. let same : t ≡ overwritten offset v t = whole t v offset ∙ ap (λ xs. take offset t ++ (xs ++ rest)) (same_bytes s v a) ∙ sym (inside t v offset h) in ap (bytes_eq t) (sym same) ∙ bytes_itself t)
+    (λ a. let same : t ≡ overwritten offset v t = whole t v offset ∙ ap (λ xs. take offset t ++ (xs ++ rest)) (same_bytes s v a) ∙ sym (inside t v offset h) in ap (bytes_eq t) (sym same) ∙ equal_bytes t)
     (λ b. let same : s ++ rest ≡ v ++ rest = append_cancel_left (take offset t) (s ++ rest) (v ++ rest) (sym (whole t v offset) ∙ same_bytes t (overwritten offset v t) b ∙ inside t v offset h) in
-    ap (bytes_eq s) (sym (append_cancel_right s v rest same)) ∙ bytes_itself s)
+    ap (bytes_eq s) (sym (append_cancel_right s v rest same)) ∙ equal_bytes s)
 
 pub part_behind : (t v : List ℕ) (offset : ℕ) → length t < offset + length v → false ≡ bytes_eq t (overwritten offset v t)
 part_behind t v offset h = elim (bytes_eq t (overwritten offset v t)) as (λ b. bytes_eq t (overwritten offset v t) ≡ b → false ≡ b) [
@@ -156,6 +154,3 @@ module _ (k text : Bytes) (by n : ℤ) (o : Option Entry) (is : held (strings (c
   increased sum r old new differs total replied_so put =
       subst (λ t. Takes t r old new) (sym increase_is)
       (record { reply_is = replied_so ∙ ap reply.int total; effects_are = put ∙ ap (λ b. old ++ (if b then [] else effect.Increase k by ∷ [])) (sym (other differs)) })
-
-pub is_i64-fits : (n : ℤ) → FitsSigned w64 n → is_i64 n ≡ true
-is_i64-fits n h = lt-ltb _ _ h.sfits

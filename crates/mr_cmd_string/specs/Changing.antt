@@ -9,10 +9,10 @@ use Rattle.mr_resp.specs.Replies as reply
 use Rattle.mr_resp.specs.Replies.{Tree}
 use Rattle.mr_effect.specs.declared.effect.Effect.{Effect}
 use Rattle.mr_effect.specs.declared.effect.Effect.TheVariants as effect
-use Rattle.mr_keyspace.specs.Steps.{texts as strings, held, deadline_of}
+use Rattle.mr_keyspace.specs.Steps.{strings, held, deadline_of}
 use Rattle.mr_keyspace.specs.declared.value.Value.TheVariants as value
 use Rattle.mr_keyspace.specs.declared.value.Entry.{Entry}
-use Rattle.mr_cmd_shared.specs.Answered.{Answered, kept, wrong_kind}
+use Rattle.mr_cmd_shared.specs.Answered.{Answered, kept, wrong_kind, overflow}
 use Rattle.mr_cmd_string.specs.Setting.{is_text}
 
 -- the key is there and holds this text
@@ -59,9 +59,6 @@ setrange_answer k offset part before = put_over k offset part (held (strings [])
 -- ---- INCR key, DECR key, INCRBY key number, DECRBY key number: an absent key holds 0
 abbrev pub no_integer : Tree
 no_integer = reply.error (codes "ERR value is not an integer or out of range")
-
-abbrev pub overflow : Tree
-overflow = reply.error (codes "ERR increment or decrement would overflow")
 
 abbrev pub set_number : Bytes → ℤ → ℤ → Option Entry → Answered
 set_number k by sum before = if is_i64 sum then rewritten (signed_decimal sum) (effect.Increase k by) (reply.int sum) before else kept overflow before

@@ -10,7 +10,7 @@ use Rattle.mr_arguments.specs.Expiry.{milliseconds}
 use Rattle.mr_arguments.specs.declared.expiry.Expiry.{Expiry}
 use Rattle.mr_arguments.specs.declared.expiry.Expiry.TheVariants.{Seconds, Milliseconds}
 use Rattle.mr_cmd_string.specs.declared.text_ask.Lifetime.TheVariants.{Until}
-use Rattle.mr_cmd_string.specs.Texts.{get_answer, strlen_answer, getrange_answer, texts}
+use Rattle.mr_cmd_string.specs.Texts.{get_answer, strlen_answer, getrange_answer, told_texts}
 use Rattle.mr_cmd_string.specs.Setting.{said_at, set_answer, set_for_answer, setnx_answer, getset_answer, getdel_answer}
 use Rattle.mr_cmd_string.specs.SettingAll.{names, mset, msetnx}
 use Rattle.mr_cmd_string.specs.Changing.{append_answer, setrange_answer, increase_answer}
@@ -23,7 +23,7 @@ command (ask.SetEx k n text) now = on_key k (set_for_answer k text (said_at now 
 command (ask.PSetEx k n text) now = on_key k (set_for_answer k text (said_at now (Until (Milliseconds n))))
 command (ask.StrLen k) now = on_key k strlen_answer
 command (ask.GetRange k first last) now = on_key k (getrange_answer first last)
-command (ask.MGet ks) now = on_keys ks (texts ks)
+command (ask.MGet ks) now = on_keys ks (told_texts ks)
 command (ask.SetNx k text) now = on_key k (setnx_answer k text)
 command (ask.GetSet k text) now = on_key k (getset_answer k text)
 command (ask.GetDel k) now = on_key k (getdel_answer k)

@@ -10,12 +10,12 @@ use Rattle.mr_resp.specs.Replies as reply
 use Rattle.mr_resp.specs.ReplyView.{trees_of}
 use Rattle.mr_effect.specs.Spelling.{arguments}
 use Rattle.mr_keyspace.specs.Dataset.{Dataset}
-use Rattle.mr_keyspace.specs.Steps.{texts as strings, held}
+use Rattle.mr_keyspace.specs.Steps.{strings, held}
 use Rattle.mr_keyspace.specs.declared.value.Entry.{Entry}
 use Rattle.mr_cmd_string.specs.Carried.{text_words}
 use Rattle.mr_cmd_string.specs.declared.text_ask.TextAsk.TheVariants as ask
 use Rattle.mr_cmd_string.specs.SettingAll.{mset, msetnx}
-use Rattle.mr_cmd_string.specs.Texts.{get_reply, strlen_reply, getrange_reply, texts}
+use Rattle.mr_cmd_string.specs.Texts.{get_reply, strlen_reply, getrange_reply, told_texts}
 use Rattle.mr_cmd_string.specs.Setting.{holds_other}
 use Rattle.mr_cmd_string.specs.Changing.{append_answer, setrange_answer, increase_answer, too_long}
 
@@ -56,7 +56,7 @@ IncreaseAdds = (k : Bytes) (by n : ℤ) (before : Option Entry) → HoldsNumber 
 
 -- MGET answers what GET answers for each key, and nil where GET refuses a value of another kind
 abbrev pub MGetIsGetOfEach : Type 0
-MGetIsGetOfEach = (ks : List Bytes) (m : Dataset) → (texts ks m).reply ≡ reply.array (trees_of (map (λ k. if holds_other (get m k) then reply.null_bulk else get_reply (get m k)) ks))
+MGetIsGetOfEach = (ks : List Bytes) (m : Dataset) → (told_texts ks m).reply ≡ reply.array (trees_of (map (λ k. if holds_other (get m k) then reply.null_bulk else get_reply (get m k)) ks))
 
 -- MSET and MSETNX have one effect, which isn't cut: behind its name it has at most as many words as the command
 abbrev pub MSetIsNoLonger : Type 0

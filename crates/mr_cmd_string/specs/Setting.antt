@@ -1,6 +1,5 @@
 -- Texts that keys get, and texts that are taken away.
 use Rattle.std.specs.Prelude.{ℤ, pos, [], ◌∷◌, Bool, true, false, ◌&&◌, if◌then◌else◌, Option, Some, None, is_none, is_some}
-use Rattle.std.specs.Ordering.{int_eq}
 use Rattle.std.specs.Str.{bytes_eq}
 use Rattle.mr_map.specs.Bytes.{Bytes}
 use Rattle.mr_resp.specs.Replies as reply
@@ -10,6 +9,7 @@ use Rattle.mr_keyspace.specs.declared.value.Value.{Value}
 use Rattle.mr_keyspace.specs.declared.value.Value.TheVariants as value
 use Rattle.mr_keyspace.specs.declared.value.Entry.{Entry}
 use Rattle.mr_cmd_shared.specs.Answered.{Answered, kept, wrong_kind, done}
+pub use Rattle.mr_cmd_shared.specs.Numbers.{is_same}
 use Rattle.mr_effect.specs.declared.effect.Effect.{Effect}
 use Rattle.mr_effect.specs.declared.effect.Effect.TheVariants as effect
 use Rattle.mr_arguments.specs.Expiry.{deadline_at}
@@ -49,13 +49,6 @@ text_until text d = record { value = value.Text text; deadline = d }
 abbrev pub is_text : Bytes → Value → Bool
 is_text text (value.Text t) = bytes_eq t text
 is_text text _ = false
-
--- the same deadline, or none in both
-abbrev pub is_same : Option ℤ → Option ℤ → Bool
-is_same None None = true
-is_same None (Some z) = false
-is_same (Some x) None = false
-is_same (Some x) (Some z) = int_eq x z
 
 -- the key holds this text already, with this deadline
 abbrev pub holds_until : Bytes → Option ℤ → Option Entry → Bool

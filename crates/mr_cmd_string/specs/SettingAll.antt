@@ -1,14 +1,14 @@
 -- Texts that several keys get.
 use Rattle.std.specs.Prelude.{pos, List, [], ◌∷◌, map, filter, Bool, not, if◌then◌else◌, is_some}
 use Rattle.std.specs.List.{list_any}
-use Rattle.std.specs.FinMap.{empty, entries, get}
-use Rattle.mr_map.specs.Bytes.{Bytes, ByteMap}
+use Rattle.std.specs.FinMap.{entries, get}
+use Rattle.mr_map.specs.Bytes.{Bytes}
 use Rattle.mr_resp.specs.Replies as reply
 use Rattle.mr_resp.specs.Replies.{Tree}
 use Rattle.mr_effect.specs.declared.effect.Effect.{Effect}
 use Rattle.mr_effect.specs.declared.effect.Effect.TheVariants as effect
 use Rattle.mr_keyspace.specs.Dataset.{Dataset}
-use Rattle.mr_keyspace.specs.Collections.{with_fields}
+use Rattle.mr_keyspace.specs.Collections.{last_values}
 use Rattle.mr_keyspace.specs.Changes.{with_texts}
 use Rattle.mr_cmd_shared.specs.Answered.{done}
 use Rattle.mr_cmd_shared.specs.Outcomes.{Outcome, answered}
@@ -18,13 +18,9 @@ use Rattle.mr_cmd_string.specs.Setting.{is_plain}
 abbrev pub names : List (Bytes × Bytes) → List Bytes
 names pairs = map (λ p. p.0) pairs
 
--- .. each with its last text
-abbrev pub last_texts : List (Bytes × Bytes) → ByteMap Bytes
-last_texts pairs = with_fields pairs empty
-
--- .. without those that hold this text already, without a deadline; in byte order
+-- .. each with its last text, without those that hold it already, without a deadline; in byte order
 abbrev pub changed : List (Bytes × Bytes) → Dataset → List (Bytes × Bytes)
-changed pairs m = filter (λ p. not (is_plain p.1 (get m p.0))) (entries (last_texts pairs))
+changed pairs m = filter (λ p. not (is_plain p.1 (get m p.0))) (entries (last_values pairs))
 
 -- one effect for all of them
 abbrev pub set_effects : List (Bytes × Bytes) → List Effect

@@ -56,8 +56,8 @@ abbrev pub found : Option Entry → Tree
 found None = reply.null_bulk
 found (Some e) = text_or_null e.value
 
-abbrev pub texts : List Bytes → Dataset → Outcome
-texts ks m = answered (reply.array (trees_of (map (λ k. found (get m k)) ks))) m
+abbrev pub told_texts : List Bytes → Dataset → Outcome
+told_texts ks m = answered (reply.array (trees_of (map (λ k. found (get m k)) ks))) m
 
 -- .. at a moment, expired ones left out
 abbrev pub texts_at : ℤ → List Bytes → Dataset → List Tree

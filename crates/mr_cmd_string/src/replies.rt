@@ -1,7 +1,8 @@
 // Replies to commands that change texts.
 ghost use Rattle.std.specs.Prelude.{◌≡◌};
 ghost use Rattle.mr_resp.specs.ReplyView.{view};
-ghost use Rattle.mr_cmd_string.specs.Changing.{no_integer, overflow, too_long};
+ghost use Rattle.mr_cmd_shared.specs.Answered.{overflow};
+ghost use Rattle.mr_cmd_string.specs.Changing.{no_integer, too_long};
 
 use mr_resp::Reply;
 use std::borrow::CowSlice;

@@ -4,7 +4,8 @@ ghost use Rattle.std.specs.FinMap.{entries};
 ghost use Rattle.mr_resp.specs.ReplyView.{view};
 ghost use Rattle.mr_cmd_shared.specs.Keys.{dels, expired};
 ghost use Rattle.mr_cmd_shared.specs.Commands.{Plans, on_keys};
-ghost use Rattle.mr_cmd_string.specs.SettingAll.{names, last_texts, set_effects, mset, msetnx};
+ghost use Rattle.mr_keyspace.specs.Collections.{last_values};
+ghost use Rattle.mr_cmd_string.specs.SettingAll.{names, set_effects, mset, msetnx};
 ghost use Rattle.mr_cmd_string.specs.Finding.{is_any_live, is_any_expired, changed_at};
 
 use crate::setting::is_plain;
@@ -68,7 +69,7 @@ fn last_texts<'a>(
     alloc: Global,
     pairs: &WordPairs<'a, '_>,
 ) -> Result<SliceMap<'a, Argument<'a>>, AllocError>
-    ensures { IfOk result (λ values. values ≡ last_texts pairs.now) }
+    ensures { IfOk result (λ values. values ≡ last_values pairs.now) }
 {
     let mut values = SliceMap::new(alloc);
     for (key, text) in pairs.iter() {

@@ -5,7 +5,7 @@ ghost use Rattle.mr_resp.specs.Replies as replies;
 ghost use Rattle.mr_resp.specs.ReplyView.{view, trees_of};
 ghost use Rattle.mr_data.specs.Dataset.{live};
 ghost use Rattle.mr_cmd_shared.specs.Commands.{Plans, on_keys};
-ghost use Rattle.mr_cmd_string.specs.Texts.{get_reply, strlen_reply, getrange_reply, part, found, text_or_null, texts, texts_at};
+ghost use Rattle.mr_cmd_string.specs.Texts.{get_reply, strlen_reply, getrange_reply, part, found, text_or_null, told_texts, texts_at};
 
 use mr_arguments::Words;
 use mr_bytes::window;
@@ -78,7 +78,7 @@ pub fn mget(
     effects: &mut Effects,
 ) -> Result<Reply, AllocError>
     ensures { IfOk result (λ r.
-        Plans (on_keys keys.now (texts keys.now)) given.now held.now (view r) effects.old
+        Plans (on_keys keys.now (told_texts keys.now)) given.now held.now (view r) effects.old
         effects.new) }
 {
     push_dels(alloc, held, keys, given, true, effects)?;

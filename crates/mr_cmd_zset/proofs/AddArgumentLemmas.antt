@@ -5,11 +5,11 @@ use Rattle.std.specs.Option.{is_some, ok_or}
 use Rattle.std.proofs.lemmas.List.{take-append-drop}
 use Rattle.std.proofs.lemmas.List.Sorted.{IsPermutation-refl, IsPermutation-middle, IsPermutation-append_left}
 use Rattle.mr_bytes.proofs.Numbers.{same_bytes}
+use Rattle.mr_bytes.proofs.Both.{first, second}
 use Rattle.mr_arguments.specs.Names.{lowered}
 use Rattle.mr_arguments.specs.Options.{added}
 use Rattle.mr_arguments.specs.Pairing.{unpaired}
 use Rattle.mr_arguments.specs.Spelling.{Part, Keyword, AreParts, in_a_row}
-use Rattle.mr_arguments.proofs.FitLemmas.{first, second}
 use Rattle.mr_arguments.proofs.OptionLemmas.{all_added, each_alone, from_none, parts_joined}
 use Rattle.mr_arguments.proofs.PartLemmas.{with_ok, if_with, if_ok, with_pairs, found_passes, ok_found}
 use Rattle.mr_arguments.specs.declared.name.Name.TheVariants as name

@@ -4,8 +4,9 @@ use Rattle.std.specs.Prelude.{IsTrue, IfOk}
 use Rattle.std.specs.List.{list_all}
 use Rattle.std.proofs.lemmas.List.Folds.{list_all-append}
 use Rattle.mr_bytes.specs.Words.{fits}
+use Rattle.mr_bytes.proofs.Both.{first, second}
 use Rattle.mr_arguments.specs.Spelling.{Part, Word, Score, AreParts, in_a_row}
-use Rattle.mr_arguments.proofs.FitLemmas.{all_words, both, carried, carried-joined, carried-words, first, of_parts_fit, parts_fit, second}
+use Rattle.mr_arguments.proofs.FitLemmas.{all_words, both, carried, carried-joined, carried-words, of_parts_fit, parts_fit}
 use Rattle.mr_arguments.proofs.PartLemmas.{with_count, with_integer}
 use Rattle.mr_arguments.specs.declared.name.Name.{Name}
 use Rattle.mr_arguments.specs.declared.name.Name.TheVariants as name

@@ -16,7 +16,7 @@ use Rattle.std.proofs.lemmas.Map.Keys.{sorted_head, sorted_tail}
 use Rattle.std.proofs.lemmas.Map.Lookups.{exact_bytes}
 use Rattle.mr_map.specs.Bytes.{Bytes, bytes_cmp}
 use Rattle.mr_map.proofs.Domains.{one_unit}
-use Rattle.mr_cmd_shared.specs.Taken.{texts, is_key, has}
+use Rattle.mr_cmd_shared.specs.Taken.{lent, is_key, has}
 use Rattle.mr_keyspace.proofs.Maps.{same_key}
 use Rattle.mr_cmd_zset.specs.Removing.{as_set}
 use Rattle.mr_cmd_zset.proofs.Removals.{contains_as_set}
@@ -27,16 +27,16 @@ module _ (E : Bor Bytes → Bor Bytes → Bool) (ties : (x y : Bor Bytes) → E 
   or_again true b = refl
   or_again false b = refl
 
-  has_once : (k : Bor Bytes) (xs : List (Bor Bytes)) → has (texts (dedup E (k ∷ xs))) q ≡ has (texts (k ∷ xs)) q
+  has_once : (k : Bor Bytes) (xs : List (Bor Bytes)) → has (lent (dedup E (k ∷ xs))) q ≡ has (lent (k ∷ xs)) q
   has_once k [] = refl
-  has_once k (x ∷ xs) = elim (E x k) as (λ b. E x k ≡ b → has (texts (cond b (dedup E (k ∷ xs)) (k ∷ dedup E (x ∷ xs)))) q ≡ (is_key q k.now || (is_key q x.now || has (texts xs) q))) [
+  has_once k (x ∷ xs) = elim (E x k) as (λ b. E x k ≡ b → has (lent (cond b (dedup E (k ∷ xs)) (k ∷ dedup E (x ∷ xs)))) q ≡ (is_key q k.now || (is_key q x.now || has (lent xs) q))) [
     | true ↦ λ t. has_once k xs
-        ∙ or_again (is_key q k.now) (has (texts xs) q)
-        ∙ ap (λ (w : Bytes). is_key q k.now || (is_key q w || has (texts xs) q)) (sym (same_key x.now k.now (sym (ties x k) ∙ t)))
+        ∙ or_again (is_key q k.now) (has (lent xs) q)
+        ∙ ap (λ (w : Bytes). is_key q k.now || (is_key q w || has (lent xs) q)) (sym (same_key x.now k.now (sym (ties x k) ∙ t)))
     | false ↦ λ t. ap (λ b. is_key q k.now || b) (has_once x xs)
   ] refl
 
-  pub has_each_once : (xs : List (Bor Bytes)) → has (texts (dedup E xs)) q ≡ has (texts xs) q
+  pub has_each_once : (xs : List (Bor Bytes)) → has (lent (dedup E xs)) q ≡ has (lent xs) q
   has_each_once [] = refl
   has_each_once (x ∷ xs) = has_once x xs
 
@@ -61,12 +61,12 @@ unfolding bare
 sorted_bare [] h = tt
 sorted_bare (x ∷ xs) h = both (below_all bytes_cmp x.now (bare xs)) (is_sorted bytes_cmp (bare xs)) (below_bare x.now xs (sorted_head _ x xs h)) (sorted_bare xs (sorted_tail _ x xs h))
 
-names_bare : (xs : List (Bor Bytes)) → map (λ (e : Bytes × Unit {0}). e.0) (bare xs) ≡ texts xs
+names_bare : (xs : List (Bor Bytes)) → map (λ (e : Bytes × Unit {0}). e.0) (bare xs) ≡ lent xs
 unfolding bare
 names_bare [] = refl
 names_bare (x ∷ xs) = ap (λ (ks : List Bytes). x.now ∷ ks) (names_bare xs)
 
-rising_keys : (xs : List (Bor Bytes)) (names : List Bytes) → Rises xs → ((q : Bytes) → has (texts xs) q ≡ has names q) → texts xs ≡ keys (as_set names)
+rising_keys : (xs : List (Bor Bytes)) (names : List Bytes) → Rises xs → ((q : Bytes) → has (lent xs) q ≡ has names q) → lent xs ≡ keys (as_set names)
 rising_keys xs names up same =
     let sorted = sorted_bare xs up in
     let is : from_sorted {R = bytes_cmp} (bare xs) ≡ as_set names = same_map nat_list_cmp_total exact_bytes _ _ (λ q.
@@ -74,8 +74,8 @@ rising_keys xs names up same =
     sym (names_bare xs) ∙ sym (ap (map (λ (e : Bytes × Unit {0}). e.0)) (entries-from_sorted bytes_cmp (bare xs) sorted)) ∙ ap keys is
 
 -- ---- sorted, and each once
-pub ordered_keys : (E : Bor Bytes → Bor Bytes → Bool) (ties : (x y : Bor Bytes) → E x y ≡ is_key x.now y.now) (xs ys zs : List (Bor Bytes)) → IsPermutation xs ys → IsSorted (λ (x y : Bor Bytes). bytes_cmp x.now y.now) ys → zs ≡ dedup E ys → texts zs ≡ keys (as_set (texts xs))
+pub ordered_keys : (E : Bor Bytes → Bor Bytes → Bool) (ties : (x y : Bor Bytes) → E x y ≡ is_key x.now y.now) (xs ys zs : List (Bor Bytes)) → IsPermutation xs ys → IsSorted (λ (x y : Bor Bytes). bytes_cmp x.now y.now) ys → zs ≡ dedup E ys → lent zs ≡ keys (as_set (lent xs))
 ordered_keys E ties xs ys zs moved sorted left =
-    ap texts left
-    ∙ rising_keys (dedup E ys) (texts xs) (IsStrictlySortedBy-dedup (on_texts (λ (x : Bor Bytes). x.now)) ties ys sorted)
-    (λ q. has_each_once E ties q ys ∙ sym (list_any-IsPermutation (is_key q) (texts xs) (texts ys) (IsPermutation-map (λ (x : Bor Bytes). x.now) xs ys moved)))
+    ap lent left
+    ∙ rising_keys (dedup E ys) (lent xs) (IsStrictlySortedBy-dedup (on_texts (λ (x : Bor Bytes). x.now)) ties ys sorted)
+    (λ q. has_each_once E ties q ys ∙ sym (list_any-IsPermutation (is_key q) (lent xs) (lent ys) (IsPermutation-map (λ (x : Bor Bytes). x.now) xs ys moved)))

@@ -1,17 +1,19 @@
 -- The effects of commands that change a sorted set are faithful.
-use Rattle.std.proofs.Common.{◌≡◌, ◌≢◌, ℤ, List, [], ◌∷◌, ◌++◌, map, Bool, true, false, ◌&&◌, cond, Option, Some, None, refl, sym, ◌∙◌, ap, arith}
+use Rattle.std.proofs.Common.{◌≡◌, ◌≢◌, ℤ, List, [], ◌∷◌, ◌++◌, map, Bool, true, false, cond, Option, Some, None, refl, sym, ◌∙◌, ap, arith}
 use Rattle.std.specs.Prelude.{IsTrue, ◌==◌, is_some}
 use Rattle.std.specs.List.{list_all}
 use Rattle.std.specs.FinMap.{get, empty, insert, len, get-empty, get-insert}
 use Rattle.std.proofs.lemmas.Cmp.{nat_list_cmp_total}
+use Rattle.std.proofs.lemmas.Bool.{and_from}
 use Rattle.mr_map.specs.Bytes.{Bytes, bytes_cmp}
 use Rattle.mr_bytes.specs.Words.{fits}
+use Rattle.mr_bytes.proofs.Both.{first}
 use Rattle.mr_resp.specs.Replies.{Tree}
 use Rattle.mr_effect.specs.Effects.{is_some_of}
 use Rattle.mr_effect.specs.declared.effect.Effect.{Effect}
 use Rattle.mr_effect.specs.declared.effect.Effect.TheVariants as effect
 use Rattle.mr_keyspace.specs.Dataset.{Dataset}
-use Rattle.mr_data.specs.Dataset.{IsDataset, IsValue, live, is_expired}
+use Rattle.mr_data.specs.Dataset.{IsDataset, IsValue}
 use Rattle.mr_keyspace.specs.Collections.{with_scores, without_scores}
 use Rattle.mr_keyspace.specs.Steps.{sorted_sets, held, sorted_set_of, entry_of, deadline_of, on}
 use Rattle.mr_keyspace.specs.Changes.{change}
@@ -21,40 +23,24 @@ use Rattle.mr_keyspace.specs.declared.value.Entry.{Entry}
 use Rattle.mr_keyspace.proofs.Nonempty.{without_scores_none, no_elements}
 use Rattle.mr_keyspace.specs.Cuts.{cut}
 use Rattle.mr_cmd_shared.specs.Taken.{is_key, has}
-use Rattle.mr_cmd_shared.specs.Keys.{purged}
 use Rattle.mr_cmd_shared.specs.Collections.{Change, changing}
 use Rattle.mr_cmd_shared.specs.Commands.{on_key, before}
 use Rattle.mr_keyspace.proofs.Cutting.{IsGroup, cut_groups, cut_whole, no_cut}
 use Rattle.mr_data.proofs.Entries.{all_map}
-use Rattle.mr_data.proofs.Folds.{setting_scores, is_kept, set_scores_is_step}
+use Rattle.mr_data.proofs.Folds.{setting_scores, is_kept, set_scores_is_step, some_of}
 use Rattle.mr_data.proofs.Running.{IsStep, steps_of, IsFold, groups_run}
 use Rattle.mr_data.proofs.KindLaws.{sorted_sets_are, sorted_sets_kept}
 use Rattle.mr_keyspace.proofs.Maps.{same_key}
-use Rattle.mr_cmd_shared.proofs.KeyLists.{get_purged}
+use Rattle.mr_cmd_shared.proofs.KeyLists.{purged_kept}
 use Rattle.mr_cmd_shared.proofs.Laws.{faithful, at_key_faithful, IsLawful}
 use Rattle.mr_cmd_shared.proofs.Changing.{IsFaithfulChange, changing_faithful}
+use Rattle.mr_cmd_shared.proofs.GroupLemmas.{no_map}
 use Rattle.mr_cmd_zset.specs.Scores.{Scores, changed, lost, unchanged, set_to, reduced_to}
 use Rattle.mr_cmd_zset.proofs.Maps.{get_without}
 use Rattle.mr_cmd_zset.proofs.Differences.{with_changed, none_changed, changed_all, without_lost, none_lost, lost_all}
 use Rattle.mr_effect.proofs.Texts.{short_effect}
 
-pub both : (a b : Bool) → a ≡ true → b ≡ true → (a && b) ≡ true
-both true b h i = i
-both false b h i = cc
-
-pub left : (a b : Bool) → (a && b) ≡ true → a ≡ true
-left true b h = refl
-left false b h = cc
-
-pub right : (a b : Bool) → (a && b) ≡ true → b ≡ true
-right true b h = h
-right false b h = cc
-
 -- ---- items in groups, each of which goes into one effect
-no_map : {A B : Type 0} (f : A → B) (xs : List A) → map f xs ≡ [] → xs ≡ []
-no_map f [] h = refl
-no_map f (x ∷ xs) h = cc
-
 module _ {A : Type 0} (k : Bytes) (make : List A → Effect) (f : List A → Scores → Scores) (fold : IsFold sorted_sets f) (p : A → Bool) (step : (g : List A) → IsGroup p g → IsStep k (make g) (on sorted_sets (λ x. Some (f g x)))) where
   cut_faithful : (reply : Tree) (value s : Scores) (o : Option Entry) (items : List A) → IsTrue (list_all p items) → held sorted_sets o ≡ Some s → f items s ≡ value → (value ≡ s → items ≡ []) → IsFaithfulChange sorted_sets (record { reply = reply; value = value; effects = map make (cut items) }) s k o
   cut_faithful reply value s o items fit is value_is some = record {
@@ -70,10 +56,6 @@ without_append : (xs ys : List Bytes) (s : Scores) → without_scores (xs ++ ys)
 without_append [] ys s = refl
 without_append (x ∷ xs) ys s = without_append xs ys _
 
-some_of : {X : Type 0} (xs : List X) → xs ≢ [] → is_some_of xs ≡ true
-some_of [] h = absurd (h refl)
-some_of (x ∷ xs) h = refl
-
 removing : IsFold sorted_sets without_scores
 removing = record {
   nothing = λ s. refl;
@@ -84,7 +66,7 @@ removing = record {
 remove_step : (k : Bytes) → fits k ≡ true → (g : List Bytes) → IsGroup fits g → IsStep k (effect.RemoveScores k g) (on sorted_sets (λ x. Some (without_scores g x)))
 unfolding change
 remove_step k fit g i = record {
-  possible = both (is_some_of g) _ (some_of g i.some) (both (fits k) _ fit i.all);
+  possible = and_from (is_some_of g) _ (some_of g i.some) (and_from (fits k) _ fit i.all);
   short = short_effect (effect.RemoveScores k g) (omega (arith, i.few));
   is = λ m. refl;
 }
@@ -103,7 +85,7 @@ set_faithful k reply s t o fit kept grown is = cut_faithful k (effect.SetScores 
 pub reduced_faithful : (k : Bytes) (reply : Tree) (xs : List Bytes) (s : Scores) (o : Option Entry) → fits k ≡ true → AreKept s → held sorted_sets o ≡ Some s → IsFaithfulChange sorted_sets (reduced_to k reply s (without_scores xs s)) s k o
 reduced_faithful k reply xs s o fit kept is =
     let t = without_scores xs s in
-    cut_faithful k (effect.RemoveScores k) without_scores removing fits (remove_step k fit) reply t s o (lost s t) (lost_all fits s t (λ q z h. left (fits q) _ (kept q z h))) is
+    cut_faithful k (effect.RemoveScores k) without_scores removing fits (remove_step k fit) reply t s o (lost s t) (lost_all fits s t (λ q z h. first (fits q) _ (kept q z h))) is
     (without_lost s t (λ q there. get_without xs s q ∙ stays (has xs q) (get s q) (ap is_some (sym (get_without xs s q)) ∙ there)))
     (none_lost s t)
   where
@@ -121,20 +103,11 @@ unchanged_faithful reply s k o = record {
 }
 
 -- ---- what a dataset keeps, it keeps without expired keys
-live_is : (now : ℤ) (o : Option Entry) (e : Entry) → live now o ≡ Some e → o ≡ Some e
-live_is now None e h = h
-live_is now (Some f) e h = elim (is_expired now f.deadline) as (λ b. (let none : Option Entry = None in cond b none (Some f)) ≡ Some e → Some f ≡ Some e) [ true ↦ λ i. cc | false ↦ λ i. i ] h
-
-purged_kept : (now : ℤ) (ks : List Bytes) (m : Dataset) → IsDataset m → IsDataset (purged now ks m)
-purged_kept now ks m h = record {
-  entries = λ k e is. h.entries k e (elim (has ks k) as (λ b. cond b (live now (get m k)) (get m k) ≡ Some e → get m k ≡ Some e) [ true ↦ λ i. live_is now (get m k) e i | false ↦ λ i. i ] (sym (get_purged now ks m k) ∙ is));
-}
-
 value_kept : (v : Value) (s : Scores) → IsValue v → sorted_set_of v ≡ Some s → AreKept s
 value_kept (value.SortedSet t) s i h q z g =
     let same : t ≡ s = cc in
     let kept = i.fit q z (ap (λ (u : Scores). get u q) same ∙ g) in
-    both (fits q) _ kept.0 kept.1
+    and_from (fits q) _ kept.0 kept.1
 value_kept (value.Text t) s i h q z g = cc
 value_kept (value.Hash t) s i h q z g = cc
 value_kept (value.List t) s i h q z g = cc
@@ -151,7 +124,7 @@ module _ (k : Bytes) (change : Scores → Change Scores) (now : ℤ) (m : Datase
       let c = on_key k (changing sorted_sets change) in
       let n = before c now m in
       let n_kept = purged_kept now (k ∷ []) m kept in
-      faithful c now m (both (fits k) true h refl) (at_key_faithful k (changing sorted_sets change) n (changing_faithful sorted_sets sorted_sets_are change k n (sorted_sets_kept n k n_kept) (λ s is. f s (get n k) (held_kept n k (get n k) s n_kept refl is) is)))
+      faithful c now m (and_from (fits k) true h refl) (at_key_faithful k (changing sorted_sets change) n (changing_faithful sorted_sets sorted_sets_are change k n (sorted_sets_kept n k n_kept) (λ s is. f s (get n k) (held_kept n k (get n k) s n_kept refl is) is)))
 
 -- ---- sets with one score more
 pub insert_kept : (s : Scores) (x : Bytes) (z : ℤ) → AreKept s → is_kept (x, z) ≡ true → AreKept (insert s x z)

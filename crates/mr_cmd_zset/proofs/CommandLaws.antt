@@ -3,9 +3,11 @@ use Rattle.std.proofs.Common.{◌≡◌, ℤ, ◌+ℤ◌, List, [], ◌∷◌, t
 use Rattle.std.specs.Prelude.{IsTrue, if◌then◌else◌}
 use Rattle.std.specs.List.{list_all}
 use Rattle.std.specs.FinMap.{get, insert, len}
+use Rattle.std.proofs.lemmas.Bool.{and_from}
 use Rattle.mr_map.specs.Bytes.{Bytes}
 use Rattle.mr_bytes.specs.Words.{fits}
 use Rattle.mr_bytes.specs.Window.{window_of, windowed}
+use Rattle.mr_bytes.proofs.Both.{first, second}
 use Rattle.mr_score.specs.Score.{is_score}
 use Rattle.mr_zset.specs.Pairs.{pairs_of, range_of}
 use Rattle.mr_resp.specs.Replies.{Tree}
@@ -28,7 +30,7 @@ use Rattle.mr_cmd_zset.specs.Adding.{is_set, with_pair, with_pairs, zadd, zincrb
 use Rattle.mr_cmd_zset.specs.Removing.{members_of as names_of, taken, zrem, take_pairs, zremrangebyrank, zremrangebyscore}
 use Rattle.mr_cmd_zset.specs.Commands.{command, HasScores}
 use Rattle.mr_data.proofs.Folds.{is_kept}
-use Rattle.mr_cmd_zset.proofs.Changes.{both, left, right, AreKept, IsGrown, insert_kept, insert_grown, set_faithful, reduced_faithful, unchanged_faithful, changing_set}
+use Rattle.mr_cmd_zset.proofs.Changes.{AreKept, IsGrown, insert_kept, insert_grown, set_faithful, reduced_faithful, unchanged_faithful, changing_set}
 
 -- ---- pairs one after another
 module _ (only : Option ScoreCondition) (than : Option Comparison) where
@@ -39,8 +41,8 @@ module _ (only : Option ScoreCondition) (than : Option Comparison) where
   pairs_kept [] s kept scores fit = kept
   pairs_kept (p ∷ ps) s kept scores fit =
       pairs_kept ps (with_pair only than p s)
-      (pair_kept p s kept (both (fits p.1) _ (left (fits p.1) _ fit) (left (is_scored p) _ scores)))
-      (right (is_scored p) _ scores) (right (fits p.1) _ fit)
+      (pair_kept p s kept (and_from (fits p.1) _ (first (fits p.1) _ fit) (first (is_scored p) _ scores)))
+      (second (is_scored p) _ scores) (second (fits p.1) _ fit)
 
   pair_grown : (p : ℤ × Bytes) (s : Scores) → IsGrown s (with_pair only than p s)
   pair_grown p s = elim (is_set only than (get s p.1) p.0) as (λ b. IsGrown s (if b then insert s p.1 p.0 else s)) [ true ↦ insert_grown s p.1 p.0 | false ↦ λ q h. h ]
@@ -51,28 +53,28 @@ module _ (only : Option ScoreCondition) (than : Option Comparison) where
 
 sum_faithful : (k x : Bytes) (n : ℤ) (s : Scores) (o : Option Entry) → fits k ≡ true → fits x ≡ true → AreKept s → held sorted_sets o ≡ Some s → IsFaithfulChange sorted_sets (set_score k x n s) s k o
 sum_faithful k x n s o a b kept is = elim (is_score n) as (λ t. is_score n ≡ t → IsFaithfulChange sorted_sets (if t then set_to k (score_reply n) s (insert s x n) else unchanged out_of_range s) s k o) [
-  | true ↦ λ t. set_faithful k (score_reply n) s (insert s x n) o a (insert_kept s x n kept (both (fits x) _ b t)) (insert_grown s x n) is
+  | true ↦ λ t. set_faithful k (score_reply n) s (insert s x n) o a (insert_kept s x n kept (and_from (fits x) _ b t)) (insert_grown s x n) is
   | false ↦ λ t. unchanged_faithful out_of_range s k o
 ] refl
 
 tells_faithful : (k : Bytes) (answer : Scores → Tree) (now : ℤ) (m : Dataset) → fits k ≡ true → IsLawful (on_key k (telling sorted_sets answer)) now m
 tells_faithful k answer now m h =
     let c = on_key k (telling sorted_sets answer) in
-    faithful c now m (both (fits k) true h refl) (at_key_faithful k (telling sorted_sets answer) (before c now m) (telling_faithful sorted_sets answer k (before c now m)))
+    faithful c now m (and_from (fits k) true h refl) (at_key_faithful k (telling sorted_sets answer) (before c now m) (telling_faithful sorted_sets answer k (before c now m)))
 
 pub zset_faithful : (c : ZSetAsk) (now : ℤ) (m : Dataset) → IsDataset m → HasScores c → IsTrue (list_all fits (zset_words c)) → IsLawful (command c) now m
-zset_faithful (ask.ZAdd k only than reply ps) now m kept scores h = changing_set k (zadd only than k reply ps) now m kept (left (fits k) _ h) (λ s o fine is.
-    set_faithful k _ s (with_pairs only than ps s) o (left (fits k) _ h) (pairs_kept only than ps s fine scores (right (fits k) _ h)) (pairs_grown only than ps s) is)
-zset_faithful (ask.ZIncrBy k by x) now m kept scores h = changing_set k (zincrby k by x) now m kept (left (fits k) _ h) (λ s o fine is.
-    sum_faithful k x (score_or_0 (get s x) +ℤ by) s o (left (fits k) _ h) (left (fits x) _ (right (fits k) _ h)) fine is)
-zset_faithful (ask.ZRem k xs) now m kept scores h = changing_set k (zrem k xs) now m kept (left (fits k) _ h) (λ s o fine is. reduced_faithful k _ xs s o (left (fits k) _ h) fine is)
-zset_faithful (ask.ZCard k) now m kept scores h = tells_faithful k _ now m (left (fits k) _ h)
-zset_faithful (ask.ZCount k min max) now m kept scores h = tells_faithful k _ now m (left (fits k) _ h)
-zset_faithful (ask.ZScore k x) now m kept scores h = tells_faithful k _ now m (left (fits k) _ h)
-zset_faithful (ask.ZMScore k xs) now m kept scores h = tells_faithful k _ now m (left (fits k) _ h)
-zset_faithful (ask.GetRank k x order) now m kept scores h = tells_faithful k _ now m (left (fits k) _ h)
-zset_faithful (ask.RangeByRank k first last order reply) now m kept scores h = tells_faithful k _ now m (left (fits k) _ h)
-zset_faithful (ask.RangeByScore k min max order limit reply) now m kept scores h = tells_faithful k _ now m (left (fits k) _ h)
-zset_faithful (ask.TakePairs k order count) now m kept scores h = changing_set k (take_pairs k order count) now m kept (left (fits k) _ h) (λ s o fine is. reduced_faithful k _ (names_of (taken order count s)) s o (left (fits k) _ h) fine is)
-zset_faithful (ask.ZRemRangeByRank k first last) now m kept scores h = changing_set k (zremrangebyrank k first last) now m kept (left (fits k) _ h) (λ s o fine is. reduced_faithful k _ (names_of (windowed (window_of first last (len s)) (pairs_of s))) s o (left (fits k) _ h) fine is)
-zset_faithful (ask.ZRemRangeByScore k min max) now m kept scores h = changing_set k (zremrangebyscore k min max) now m kept (left (fits k) _ h) (λ s o fine is. reduced_faithful k _ (names_of (range_of min max s)) s o (left (fits k) _ h) fine is)
+zset_faithful (ask.ZAdd k only than reply ps) now m kept scores h = changing_set k (zadd only than k reply ps) now m kept (first (fits k) _ h) (λ s o fine is.
+    set_faithful k _ s (with_pairs only than ps s) o (first (fits k) _ h) (pairs_kept only than ps s fine scores (second (fits k) _ h)) (pairs_grown only than ps s) is)
+zset_faithful (ask.ZIncrBy k by x) now m kept scores h = changing_set k (zincrby k by x) now m kept (first (fits k) _ h) (λ s o fine is.
+    sum_faithful k x (score_or_0 (get s x) +ℤ by) s o (first (fits k) _ h) (first (fits x) _ (second (fits k) _ h)) fine is)
+zset_faithful (ask.ZRem k xs) now m kept scores h = changing_set k (zrem k xs) now m kept (first (fits k) _ h) (λ s o fine is. reduced_faithful k _ xs s o (first (fits k) _ h) fine is)
+zset_faithful (ask.ZCard k) now m kept scores h = tells_faithful k _ now m (first (fits k) _ h)
+zset_faithful (ask.ZCount k min max) now m kept scores h = tells_faithful k _ now m (first (fits k) _ h)
+zset_faithful (ask.ZScore k x) now m kept scores h = tells_faithful k _ now m (first (fits k) _ h)
+zset_faithful (ask.ZMScore k xs) now m kept scores h = tells_faithful k _ now m (first (fits k) _ h)
+zset_faithful (ask.GetRank k x order) now m kept scores h = tells_faithful k _ now m (first (fits k) _ h)
+zset_faithful (ask.RangeByRank k low high order reply) now m kept scores h = tells_faithful k _ now m (first (fits k) _ h)
+zset_faithful (ask.RangeByScore k min max order limit reply) now m kept scores h = tells_faithful k _ now m (first (fits k) _ h)
+zset_faithful (ask.TakePairs k order count) now m kept scores h = changing_set k (take_pairs k order count) now m kept (first (fits k) _ h) (λ s o fine is. reduced_faithful k _ (names_of (taken order count s)) s o (first (fits k) _ h) fine is)
+zset_faithful (ask.ZRemRangeByRank k low high) now m kept scores h = changing_set k (zremrangebyrank k low high) now m kept (first (fits k) _ h) (λ s o fine is. reduced_faithful k _ (names_of (windowed (window_of low high (len s)) (pairs_of s))) s o (first (fits k) _ h) fine is)
+zset_faithful (ask.ZRemRangeByScore k min max) now m kept scores h = changing_set k (zremrangebyscore k min max) now m kept (first (fits k) _ h) (λ s o fine is. reduced_faithful k _ (names_of (range_of min max s)) s o (first (fits k) _ h) fine is)

@@ -6,6 +6,7 @@ use Rattle.std.proofs.lemmas.Grind.{reverse_onto}
 use Rattle.std.proofs.Math.Seq.{take-append_seam}
 use Rattle.std.specs.Ordering.{is_lt}
 use Rattle.std.specs.FinMap.{len, entries, len-entries}
+use Rattle.std.proofs.Math.Nat.{suc-min-suc}
 use Rattle.mr_map.specs.Bytes.{Bytes}
 use Rattle.mr_zset.specs.Order.{placed, in_order}
 use Rattle.mr_zset.specs.Pairs.{pair_cmp, pairs_of}
@@ -19,9 +20,6 @@ zero_min n = omega arith
 min_zero : (n : ℕ) → min n 0 ≡ 0
 min_zero n = omega arith
 
-min_suc : (n k : ℕ) → min (suc n) (suc k) ≡ suc (min n k)
-min_suc n k = omega arith
-
 module _ {A : Type 0} where
   take_none : (n : ℕ) → take {A = A} n [] ≡ []
   take_none zero = refl
@@ -30,7 +28,7 @@ module _ {A : Type 0} where
   take_within : (n : ℕ) (xs : List A) → take (min n (length xs)) xs ≡ take n xs
   take_within n [] = take_none (min n 0) ∙ sym (take_none n)
   take_within zero (x ∷ xs) = ap (λ k. take k (x ∷ xs)) (zero_min (length (x ∷ xs)))
-  take_within (suc n) (x ∷ xs) = ap (λ k. take k (x ∷ xs)) (min_suc n (length xs)) ∙ ap (λ zs. x ∷ zs) (take_within n xs)
+  take_within (suc n) (x ∷ xs) = ap (λ k. take k (x ∷ xs)) (suc-min-suc n (length xs)) ∙ ap (λ zs. x ∷ zs) (take_within n xs)
 
   pub none_first : (xs : List A) (n c l : ℕ) → l ≡ length xs → c ≡ min n l → c ≡ 0 → [] ≡ take n xs
   none_first xs n c l len few none =

@@ -7,7 +7,6 @@ pub mod FaultLemmas
 pub mod Entries
 pub mod Maps
 pub mod Differences
-pub mod GroupLemmas
 pub mod Pushing
 pub mod AnswerLemmas
 pub mod Adds

@@ -10,8 +10,10 @@ use Rattle.std.specs.FinMap.{get, empty, insert, keys, len, entries, contains_ke
 use Rattle.std.specs.FinMap.Entries.{put}
 use Rattle.std.proofs.lemmas.List.{length-map, map-append, nil_from_length}
 use Rattle.std.proofs.lemmas.Cmp.{nat_list_cmp_total}
+use Rattle.std.proofs.Math.Bool.{or-false}
 use Rattle.mr_map.specs.Bytes.{Bytes, ByteMap, bytes_cmp}
-use Rattle.mr_map.proofs.Domains.{same_keys}
+use Rattle.mr_map.proofs.Domains.{same_keys, some_or}
+use Rattle.mr_map.proofs.Conditions.{or_next}
 use Rattle.mr_bytes.specs.Window.{window_of, windowed}
 use Rattle.mr_resp.specs.Replies.{Tree}
 use Rattle.mr_effect.specs.declared.effect.Effect.{Effect}
@@ -27,9 +29,10 @@ use Rattle.mr_zset_options.specs.declared.choices.Order.{Order}
 use Rattle.mr_zset_options.specs.declared.choices.Order.TheVariants as order
 use Rattle.mr_zset_options.specs.declared.choices.RangeReply.TheVariants.{WithScores}
 use Rattle.mr_keyspace.specs.Collections.{with_members, without_scores}
-use Rattle.mr_cmd_shared.specs.Taken.{is_key, has, texts}
+use Rattle.mr_cmd_shared.specs.Taken.{is_key, has, lent}
 use Rattle.mr_keyspace.proofs.Maps.{same_key}
 use Rattle.mr_cmd_shared.proofs.KeyLists.{more_words}
+use Rattle.mr_cmd_shared.proofs.TakenLemmas.{has_append}
 use Rattle.mr_cmd_zset.specs.Scores.{Scores, number, lost, pairs_in, reduced_to, Makes}
 use Rattle.mr_cmd_zset.specs.Removing.{members_of, as_set, remove_all}
 use Rattle.mr_cmd_zset.specs.Ranges.{pairs_reply}
@@ -37,19 +40,6 @@ use Rattle.mr_data.proofs.Entries.{own_entries}
 use Rattle.mr_cmd_zset.proofs.Maps.{get_without, get_retained}
 
 -- ---- sets of words
-some_or : (b : Bool) (x : Option (Unit {0})) → is_some (cond b (Some tt) x) ≡ (b || is_some x)
-some_or true x = refl
-some_or false x = refl
-
-or_next : (a b c : Bool) → (b || (a || c)) ≡ ((a || b) || c)
-or_next true true c = refl
-or_next true false c = refl
-or_next false b c = refl
-
-or_false : (b : Bool) → (b || false) ≡ b
-or_false true = refl
-or_false false = refl
-
 contains_insert : (s : ByteMap (Unit {0})) (x q : Bytes) → contains_key (insert s x tt) q ≡ (is_key q x || contains_key s q)
 contains_insert s x q = ap is_some (get-insert nat_list_cmp_total s x tt q) ∙ some_or (is_key q x) (get s q)
 
@@ -61,7 +51,7 @@ contains_none : (q : Bytes) → contains_key {X = Unit {0}} (empty {R = bytes_cm
 contains_none q = ap is_some (get-empty bytes_cmp q)
 
 pub contains_as_set : (xs : List Bytes) (q : Bytes) → contains_key (as_set xs) q ≡ has xs q
-contains_as_set xs q = contains_with xs empty q ∙ ap (λ b. has xs q || b) (contains_none q) ∙ or_false (has xs q)
+contains_as_set xs q = contains_with xs empty q ∙ ap (λ b. has xs q || b) (contains_none q) ∙ or-false (has xs q)
 
 pub len_keys : (s : ByteMap (Unit {0})) → len s ≡ length (keys s)
 len_keys s = len-entries s ∙ sym (length-map (entries s) (λ e. e.0))
@@ -150,23 +140,15 @@ pub those_lost : (there : ByteMap (Unit {0})) (xs : List Bytes) (s : Scores) →
 those_lost there xs s h = same_keys there (retain_keys s (misses (without_scores xs s))) (λ q. h q ∙ sym (contains_lost xs s q))
 
 -- ---- a loop over words
-has_append : (xs ys : List Bytes) (q : Bytes) → has (xs ++ ys) q ≡ (has xs q || has ys q)
-has_append [] ys q = refl
-has_append (x ∷ xs) ys q = ap (λ b. is_key q x || b) (has_append xs ys q) ∙ assoc (is_key q x) (has xs q) (has ys q)
-  where
-    assoc : (a b c : Bool) → (a || (b || c)) ≡ ((a || b) || c)
-    assoc true b c = refl
-    assoc false b c = refl
-
 -- these are the words that are members of the set
 abbrev pub IsThere : List (Bor Bytes) → List Bytes → Scores → Type 0
-IsThere there xs s = (q : Bytes) → has (texts there) q ≡ (has xs q && is_some (get s q))
+IsThere there xs s = (q : Bytes) → has (lent there) q ≡ (has xs q && is_some (get s q))
 
 pub none_there : (there : List (Bor Bytes)) (s : Scores) → there ≡ [] → IsThere there [] s
-none_there there s h q = ap (λ (ms : List (Bor Bytes)). has (texts ms) q) h
+none_there there s h q = ap (λ (ms : List (Bor Bytes)). has (lent ms) q) h
 
 pub has_one : (xs : List Bytes) (x q : Bytes) → has (xs ++ x ∷ []) q ≡ (has xs q || is_key q x)
-has_one xs x q = has_append xs (x ∷ []) q ∙ ap (λ b. has xs q || b) (or_false (is_key q x))
+has_one xs x q = has_append xs (x ∷ []) q ∙ ap (λ b. has xs q || b) (or-false (is_key q x))
 
 module _ {A : Type 0} (f : A → Bytes) (xs : List A) (i : ℕ) (x : A) (here : i < length xs) (is : x ≡ get_or xs i x) (m : Bor Bytes) (word : m.now ≡ f x) (s : Scores) (there : List (Bor Bytes)) (before : IsThere there (map f (take i xs)) s) where
   more : map f (take (i + 1) xs) ≡ map f (take i xs) ++ m.now ∷ []
@@ -177,13 +159,13 @@ module _ {A : Type 0} (f : A → Bytes) (xs : List A) (i : ℕ) (x : A) (here : 
 
   pub word_there : (t : List (Bor Bytes)) → is_some (get s m.now) ≡ true → t ≡ there ++ m ∷ [] → IsThere t (map f (take (i + 1) xs)) s
   word_there t some e q =
-      ap (λ (ms : List (Bor Bytes)). has (texts ms) q) e
+      ap (λ (ms : List (Bor Bytes)). has (lent ms) q) e
       ∙ ap (λ ys. has ys q) (map-append (λ (y : Bor Bytes). y.now) there (m ∷ []))
-      ∙ has_one (texts there) m.now q
+      ∙ has_one (lent there) m.now q
       ∙ ap (λ b. b || is_key q m.now) (before q)
       ∙ elim (is_key q m.now) as (λ b. is_key q m.now ≡ b → ((has (map f (take i xs)) q && is_some (get s q)) || b) ≡ ((has (map f (take i xs)) q || b) && is_some (get s q))) [
         | true ↦ λ t. or_true (has (map f (take i xs)) q && is_some (get s q)) ∙ sym (ap (λ c. c && is_some (get s q)) (or_true (has (map f (take i xs)) q)) ∙ ap (λ (k : Bytes). is_some (get s k)) (same_key q m.now t) ∙ some)
-        | false ↦ λ t. or_false (has (map f (take i xs)) q && is_some (get s q)) ∙ ap (λ c. c && is_some (get s q)) (sym (or_false (has (map f (take i xs)) q)))
+        | false ↦ λ t. or-false (has (map f (take i xs)) q && is_some (get s q)) ∙ ap (λ c. c && is_some (get s q)) (sym (or-false (has (map f (take i xs)) q)))
       ] refl
       ∙ ap (λ b. b && is_some (get s q)) (sym (has_more q))
     where
@@ -196,7 +178,7 @@ module _ {A : Type 0} (f : A → Bytes) (xs : List A) (i : ℕ) (x : A) (here : 
       before q
       ∙ elim (is_key q m.now) as (λ b. is_key q m.now ≡ b → (has (map f (take i xs)) q && is_some (get s q)) ≡ ((has (map f (take i xs)) q || b) && is_some (get s q))) [
         | true ↦ λ t. let no : is_some (get s q) ≡ false = ap (λ (k : Bytes). is_some (get s k)) (same_key q m.now t) ∙ none in ap (λ c. has (map f (take i xs)) q && c) no ∙ and_false (has (map f (take i xs)) q) ∙ sym (ap (λ c. (has (map f (take i xs)) q || true) && c) no ∙ and_false (has (map f (take i xs)) q || true))
-        | false ↦ λ t. ap (λ c. c && is_some (get s q)) (sym (or_false (has (map f (take i xs)) q)))
+        | false ↦ λ t. ap (λ c. c && is_some (get s q)) (sym (or-false (has (map f (take i xs)) q)))
       ] refl
       ∙ ap (λ b. b && is_some (get s q)) (sym (has_more q))
     where
@@ -205,8 +187,8 @@ module _ {A : Type 0} (f : A → Bytes) (xs : List A) (i : ℕ) (x : A) (here : 
       and_false false = refl
 
 -- .. in byte order, each once
-pub there_lost : (there : List (Bor Bytes)) (xs : List Bytes) (s : Scores) → IsThere there xs s → keys (as_set (texts there)) ≡ lost s (without_scores xs s)
-there_lost there xs s h = those_lost (as_set (texts there)) xs s (λ q. contains_as_set (texts there) q ∙ h q)
+pub there_lost : (there : List (Bor Bytes)) (xs : List Bytes) (s : Scores) → IsThere there xs s → keys (as_set (lent there)) ≡ lost s (without_scores xs s)
+there_lost there xs s h = those_lost (as_set (lent there)) xs s (λ q. contains_as_set (lent there) q ∙ h q)
 
 -- ---- pairs of a set are there
 abbrev pub AreIn : Scores → List (Bytes × ℤ) → Type 0

@@ -7,6 +7,7 @@ use Rattle.std.specs.FinMap.{keys, len, entries, contains_key, len-entries}
 use Rattle.std.proofs.lemmas.List.{length-map, length-take, map-append, take_all}
 use Rattle.mr_map.specs.Bytes.{Bytes}
 use Rattle.mr_map.proofs.Domains.{same_keys}
+use Rattle.mr_map.proofs.Conditions.{or_swap}
 use Rattle.mr_zset.specs.Order.{placed, in_order}
 use Rattle.mr_zset.specs.Pairs.{pair_cmp, pairs_of}
 use Rattle.mr_zset_options.specs.declared.choices.Order.{Order}
@@ -17,11 +18,6 @@ use Rattle.mr_cmd_zset.specs.Removing.{members_of, as_set}
 use Rattle.mr_cmd_zset.proofs.Firsts.{len_pairs, len_pairs_in}
 use Rattle.mr_cmd_zset.proofs.Maps.{has_keys}
 use Rattle.mr_cmd_zset.proofs.Removals.{contains_as_set, has_one, len_keys}
-
-or_swap : (a b c : Bool) → (a || (b || c)) ≡ (b || (a || c))
-or_swap true true c = refl
-or_swap true false c = refl
-or_swap false b c = refl
 
 has_placed : (p : Bytes × ℤ) (ps : List (Bytes × ℤ)) (q : Bytes) → has (members_of (placed pair_cmp p ps)) q ≡ (is_key q p.0 || has (members_of ps) q)
 has_placed p [] q = refl

@@ -1,24 +1,22 @@
 -- ZREM, ZPOPMIN, ZPOPMAX, ZREMRANGEBYRANK, ZREMRANGEBYSCORE: members go.
-use Rattle.std.specs.Prelude.{ℕ, ℤ, List, map, take, length, Option, Some, None}
-use Rattle.std.specs.FinMap.{empty, len}
-use Rattle.mr_map.specs.Bytes.{Bytes, ByteMap}
+use Rattle.std.specs.Prelude.{ℕ, ℤ, List, map, take, length, Option}
+use Rattle.std.specs.FinMap.{len}
+use Rattle.mr_map.specs.Bytes.{Bytes}
 use Rattle.mr_bytes.specs.Window.{window_of, windowed}
 use Rattle.mr_zset.specs.Pairs.{pairs_of, range_of}
 use Rattle.mr_zset.specs.declared.bound.Bound.{Bound}
-use Rattle.mr_keyspace.specs.Collections.{with_members, without_scores}
+use Rattle.mr_keyspace.specs.Collections.{without_scores}
+pub use Rattle.mr_keyspace.specs.Collections.{as_set}
 use Rattle.mr_zset_options.specs.declared.choices.Order.{Order}
 use Rattle.mr_zset_options.specs.declared.choices.RangeReply.TheVariants.{WithScores}
 use Rattle.mr_cmd_shared.specs.Collections.{Change}
+use Rattle.mr_cmd_shared.specs.Numbers.{count_or_one}
 use Rattle.mr_cmd_zset.specs.Scores.{Scores, number, pairs_in, lost, reduced_to}
 use Rattle.mr_cmd_zset.specs.Ranges.{pairs_reply}
 
 -- the members of pairs
 abbrev pub members_of : List (Bytes × ℤ) → List Bytes
 members_of ps = map (λ (p : Bytes × ℤ). p.0) ps
-
--- these members, each once
-abbrev pub as_set : List Bytes → ByteMap (Unit {0})
-as_set xs = with_members xs empty
 
 -- members go, where they are there, and their number is answered
 abbrev pub remove_all : Bytes → List Bytes → Scores → Change Scores
@@ -37,10 +35,6 @@ abbrev pub zremrangebyscore : Bytes → Bound → Bound → Scores → Change Sc
 zremrangebyscore k min max s = remove_all k (members_of (range_of min max s)) s
 
 -- ---- ZPOPMIN key [count], ZPOPMAX: without a count one pair
-
-abbrev pub count_or_one : Option ℕ → ℕ
-count_or_one None = 1
-count_or_one (Some n) = n
 
 -- the first pairs in this order
 abbrev pub taken : Order → Option ℕ → Scores → List (Bytes × ℤ)

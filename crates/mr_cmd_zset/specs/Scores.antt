@@ -1,8 +1,7 @@
 -- Sorted sets before and after a command: how they differ, the effects that say so, and what is answered of them.
-use Rattle.std.specs.Prelude.{◌≡◌, ℕ, ℤ, pos, List, [], ◌∷◌, ◌++◌, map, reverse, Bool, true, false, not, if◌then◌else◌, Option, Some, None}
+use Rattle.std.specs.Prelude.{◌≡◌, ℕ, ℤ, pos, List, [], ◌∷◌, ◌++◌, map, reverse, not, if◌then◌else◌, Option, Some, None}
 use Rattle.std.specs.Fmt.{signed_decimal}
 use Rattle.std.specs.FinMap.{get, contains_key, entries, keys, retain_keys}
-use Rattle.std.specs.Ordering.{int_eq}
 use Rattle.mr_map.specs.Bytes.{Bytes, ByteMap}
 use Rattle.mr_resp.specs.Replies as reply
 use Rattle.mr_resp.specs.Replies.{Tree}
@@ -14,6 +13,7 @@ use Rattle.mr_zset_options.specs.declared.choices.Order.{Order}
 use Rattle.mr_zset_options.specs.declared.choices.Order.TheVariants as order
 use Rattle.mr_keyspace.specs.Cuts.{cut}
 use Rattle.mr_cmd_shared.specs.Collections.{Change}
+pub use Rattle.mr_cmd_shared.specs.Numbers.{is_same}
 
 abbrev pub Scores : Type 0
 Scores = ByteMap ℤ
@@ -33,13 +33,6 @@ pairs_in order.Ascending s = pairs_of s
 pairs_in order.Descending s = reverse (pairs_of s)
 
 -- ---- what differs
-
--- the same score, or none in both
-abbrev pub is_same : Option ℤ → Option ℤ → Bool
-is_same None None = true
-is_same None (Some z) = false
-is_same (Some y) None = false
-is_same (Some y) (Some z) = int_eq y z
 
 -- the members that have another score than before, in byte order
 abbrev pub changed : Scores → Scores → List (Bytes × ℤ)

@@ -3,7 +3,7 @@ ghost use Rattle.std.specs.Prelude.{◌≡◌, ◌∷◌, ◌++◌, [], map, OnO
 ghost use Rattle.std.specs.FinMap.{keys};
 ghost use Rattle.mr_effect.specs.declared.effect.Effect.TheVariants as made;
 ghost use Rattle.mr_keyspace.specs.Cuts.{cut};
-ghost use Rattle.mr_cmd_shared.specs.Taken.{texts};
+ghost use Rattle.mr_cmd_shared.specs.Taken.{lent};
 ghost use Rattle.mr_cmd_zset.specs.Scores.{changed, changed_alone};
 
 use crate::groups::{MemberGroup, ScoreGroup, end_members, end_scores};
@@ -58,7 +58,7 @@ pub fn push_lost(
     effects: &mut Effects,
 ) -> Result<(), AllocError>
     ensures { OnOk result (effects.new ≡
-        effects.old ++ map (made.RemoveScores key.now) (cut (texts members.now))) }
+        effects.old ++ map (made.RemoveScores key.now) (cut (lent members.now))) }
 {
     let mut group = MemberGroup::new(alloc, key.as_slice());
     for member in members {

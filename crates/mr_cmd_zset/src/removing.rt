@@ -8,7 +8,7 @@ ghost use Rattle.mr_zset.specs.Pairs.{pairs_of, shown};
 ghost use Rattle.mr_keyspace.specs.Collections.{without_scores};
 ghost use Rattle.mr_effect.specs.declared.effect.Effect.TheVariants as made;
 ghost use Rattle.mr_keyspace.specs.Cuts.{cut};
-ghost use Rattle.mr_cmd_shared.specs.Taken.{texts};
+ghost use Rattle.mr_cmd_shared.specs.Taken.{lent};
 ghost use Rattle.mr_cmd_zset.specs.Scores.{number, pairs_in, lost, Makes};
 ghost use Rattle.mr_cmd_zset.specs.Removing.{members_of, zrem, zremrangebyrank, zremrangebyscore, as_set, take_pairs};
 
@@ -45,7 +45,7 @@ fn named_there<'a>(
     set: &ZSet,
 ) -> Result<Vec<&'a [u8]>, AllocError>
     ensures { IfOk result (λ there.
-        texts there.items ≡ lost set.now (without_scores members.now set.now)) }
+        lent there.items ≡ lost set.now (without_scores members.now set.now)) }
 {
     let mut there = Vec::new(alloc);
     for word in members.as_slice() {
@@ -59,7 +59,7 @@ fn named_there<'a>(
 
 /// These members in byte order, each once. It takes no memory.
 fn in_byte_order(mut members: Vec<&[u8]>) -> Vec<&[u8]>
-    ensures { texts result.items ≡ keys (as_set (texts members.entry.items)) }
+    ensures { lent result.items ≡ keys (as_set (lent members.entry.items)) }
 {
     members.sort_unstable();
     members.dedup();
@@ -203,7 +203,7 @@ fn push_members(
 /// The members of pairs in byte order, each once. They are not copied.
 fn members_of<'d>(alloc: Global, pairs: &[Pair<'d>]) -> Result<Vec<&'d [u8]>, AllocError>
     ensures { IfOk result (λ members.
-        texts members.items ≡ keys (as_set (members_of (map shown pairs.now)))) }
+        lent members.items ≡ keys (as_set (members_of (map shown pairs.now)))) }
 {
     let mut members = Vec::with_capacity(alloc, pairs.len())?;
     for pair in pairs {

@@ -1,5 +1,6 @@
 -- Requests that waited are done one behind another.
-use Rattle.std.proofs.Common.{◌≡◌, ◌++◌, ◌∷◌, ℕ, suc, List, [], append-nil, append_assoc, Bool, true, Option, Some, length, refl, sym, ap, subst, ◌∙◌}
+use Rattle.std.proofs.Common.{◌≡◌, ◌++◌, ◌∷◌, ℕ, suc, List, [], append-nil, append_assoc, Bool, true, Some, length, refl, sym, ap, subst, ◌∙◌}
+use Rattle.std.proofs.lemmas.Option.{same_Some}
 use Rattle.mr_resp.specs.Replies.{Tree}
 use Rattle.mr_resp.specs.Request.{IsRequest}
 use Rattle.mr_resp.specs.Usual.{usual}
@@ -11,9 +12,6 @@ use Rattle.mr_cmd_server.specs.declared.question.Question.{Question}
 use Rattle.mr_commands.specs.Requests.{left}
 use Rattle.mr_commands.specs.Transactions.{Does, DoesAll, Frame, FirstTakesMemory}
 use Rattle.mr_commands.proofs.Replicas.{none_on_replica}
-
-some_is : (m n : Dataset) → ◌≡◌ {A = Option Dataset} (Some m) (Some n) → m ≡ n
-some_is m n e = cc
 
 none_none : (xs ys : List Effect) → xs ++ ys ≡ [] → (xs ≡ []) × (ys ≡ [])
 none_none [] ys e = (refl, e)
@@ -48,7 +46,7 @@ module _ (frame : Frame) (replica : Bool) (given : Given) where
   -- what has no effect leaves the dataset
   does_nothing : (words : List (List ℕ)) (before : List Effect) (m n : Dataset) (reply : Tree) (effects : List Effect) → effects ≡ [] → Does frame replica given words before m reply effects n → n ≡ m
   does_nothing words before m n reply effects none (Does.fits plain plan fits is) =
-      is ∙ sym (some_is m (left replica words given m) (subst (λ (z : List Effect). apply_all z m ≡ Some (left replica words given m)) none plan.leads))
+      is ∙ sym (same_Some m (left replica words given m) (subst (λ (z : List Effect). apply_all z m ≡ Some (left replica words given m)) none plan.leads))
   does_nothing words before m n reply effects none (Does.passes plain planned over plan full told nothing same) = same
   does_nothing words before m n reply effects none (Does.tells question asks told nothing same) = same
   does_nothing words before m n reply effects none (Does.refuses refused asks told nothing same) = same

@@ -35,6 +35,7 @@ pub enum Answer {
 
 /// What the words of a request are answered by a master or by a replica, and their effects. Words that are no command are answered
 /// their fault, and have none. A replica refuses writes, and no answer of its has an effect: an expired key is answered as absent, and kept.
+/// It is for callers that have a dataset alone, as the tests' `rehearse`: a node reads the words itself, for some ask something of it.
 #[tactic(auto, using(crate::proofs::Leading::no_texts))]
 pub fn plan_words(
     alloc: Global,

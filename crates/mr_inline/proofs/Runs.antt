@@ -93,17 +93,14 @@ length-closing Single = refl
 length-closing SingleEscape = refl
 length-closing Closed = refl
 
-bytes_cons : (b : ℕ) (bs : List ℕ) → b < 256 → All (λ b. b < 256) bs → All (λ b. b < 256) (b ∷ bs)
-bytes_cons b bs h t = All-cons (λ b. b < 256) b bs h t
-
 bytes_line_feed : All (λ b. b < 256) (line_feed ∷ [])
-bytes_line_feed = bytes_cons line_feed [] (lit< tt) (All-nil (λ b. b < 256))
+bytes_line_feed = All-cons (λ b. b < 256) line_feed [] (lit< tt) (All-nil (λ b. b < 256))
 
 pub bytes_closing : (place : Place) → All (λ b. b < 256) (closing place)
 bytes_closing Between = bytes_line_feed
 bytes_closing Plain = bytes_line_feed
-bytes_closing Double = bytes_cons double_quote (line_feed ∷ []) (lit< tt) bytes_line_feed
-bytes_closing DoubleEscape = bytes_cons 97 (double_quote ∷ line_feed ∷ []) (lit< tt) (bytes_cons double_quote (line_feed ∷ []) (lit< tt) bytes_line_feed)
-bytes_closing Single = bytes_cons single_quote (line_feed ∷ []) (lit< tt) bytes_line_feed
-bytes_closing SingleEscape = bytes_cons 97 (single_quote ∷ line_feed ∷ []) (lit< tt) (bytes_cons single_quote (line_feed ∷ []) (lit< tt) bytes_line_feed)
+bytes_closing Double = All-cons (λ b. b < 256) double_quote (line_feed ∷ []) (lit< tt) bytes_line_feed
+bytes_closing DoubleEscape = All-cons (λ b. b < 256) 97 (double_quote ∷ line_feed ∷ []) (lit< tt) (All-cons (λ b. b < 256) double_quote (line_feed ∷ []) (lit< tt) bytes_line_feed)
+bytes_closing Single = All-cons (λ b. b < 256) single_quote (line_feed ∷ []) (lit< tt) bytes_line_feed
+bytes_closing SingleEscape = All-cons (λ b. b < 256) 97 (single_quote ∷ line_feed ∷ []) (lit< tt) (All-cons (λ b. b < 256) single_quote (line_feed ∷ []) (lit< tt) bytes_line_feed)
 bytes_closing Closed = bytes_line_feed

@@ -1,6 +1,6 @@
 -- Two maps that have the same keys, before and after one change, and their keys as lists.
 use Rattle.std.proofs.Common.{map, ◌≡◌, ℕ, List, [], ◌∷◌, Option, Some, None, Bool, true, false, ◌&&◌, cond, refl, sym, ◌∙◌, ap, subst}
-use Rattle.std.specs.Prelude.{is_some, T}
+use Rattle.std.specs.Prelude.{is_some, T, ◌||◌}
 use Rattle.std.specs.Ordering.{eq_by_cmp, is_eq, is_lt}
 use Rattle.std.specs.declared.cmp.Ordering.{Ordering}
 use Rattle.std.specs.declared.cmp.Ordering.TheVariants.{Less, Equal, Greater}
@@ -81,6 +81,10 @@ one_unit None None e = refl
 one_unit None (Some y) e = cc
 one_unit (Some x) None e = cc
 one_unit (Some x) (Some y) e = refl
+
+pub some_or : (b : Bool) (x : Option (Unit {0})) → is_some (cond b (Some tt) x) ≡ (b || is_some x)
+some_or true x = refl
+some_or false x = refl
 
 -- a set that has the keys of a map lists them
 pub same_keys : {X : Type 0} (o : ByteMap (Unit {0})) (h : ByteMap X) → HaveSameKeys o h → keys o ≡ keys h

@@ -13,6 +13,7 @@ use Rattle.mr_map.specs.Bytes.{bytes_cmp}
 use Rattle.mr_map.specs.Merged.{merged, merged_from, Entries}
 use Rattle.mr_map.specs.Short.{room}
 use Rattle.mr_map.proofs.Domains.{equal}
+use Rattle.mr_map.proofs.Conditions.{both_hold}
 
 -- P holds of each key
 abbrev pub Each : {X : Type 0} → (List ℕ → Type 0) → Entries X → Type 0
@@ -128,9 +129,6 @@ rise-merged [] fs f g s l = g
 rise-merged (e ∷ es) fs f g s l = rise_from e es fs f.0 s.0 (λ gs h. rise-merged es gs f.1 h s.1) g l
 
 -- ---- the same order as a map has it
-both : (a b : Bool) → T a → T b → T (a && b)
-both true b p q = q
-both false b p q = p
 
 first : (a b : Bool) → T (a && b) → T a
 first true b p = tt
@@ -146,11 +144,11 @@ is_true false p = absurd p
 
 is_below : {X : Type 0} (x : List ℕ) (es : Entries X) → Precedes x es → T (below_all bytes_cmp x es)
 is_below x [] h = tt
-is_below x (e ∷ es) h = both _ _ (subst (λ r. T (is_lt r)) (sym h.0) tt) (is_below x es h.1)
+is_below x (e ∷ es) h = both_hold _ _ (subst (λ r. T (is_lt r)) (sym h.0) tt) (is_below x es h.1)
 
 pub sorted_of : {X : Type 0} (es : Entries X) → Rise es → T (is_sorted bytes_cmp es)
 sorted_of [] h = tt
-sorted_of (e ∷ es) h = both _ _ (is_below e.0 es h.0) (sorted_of es h.1)
+sorted_of (e ∷ es) h = both_hold _ _ (is_below e.0 es h.0) (sorted_of es h.1)
 
 precedes_of : {X : Type 0} (x : List ℕ) (es : Entries X) → T (below_all bytes_cmp x es) → Precedes x es
 precedes_of x [] h = tt

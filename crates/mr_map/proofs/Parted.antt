@@ -7,6 +7,7 @@ use Rattle.std.proofs.lemmas.Cmp.{nat_list_cmp_total}
 use Rattle.std.proofs.lemmas.Map.Lookups.{exact_bytes}
 use Rattle.mr_map.specs.Bytes.{bytes_cmp, named_by, ByteMap}
 use Rattle.std.specs.Global.{Box}
+use Rattle.std.proofs.lemmas.List.{nil_from_length}
 use Rattle.mr_map.specs.Merged.{held, joined, merged, AreParted, Entries}
 use Rattle.mr_map.proofs.Merging.{apart, each_found, find-merged, first_put, length-merged, or_else, rise-merged, rise_of, second_put, sorted_of, tied, Long, Short}
 
@@ -176,10 +177,6 @@ cut_none : {X : Type 0} (b : Bool) (o : Option X) → o ≡ None → cond b None
 cut_none true o e = sym e
 cut_none false o e = refl
 
-nothing : {A : Type 0} (es : List A) → length es ≡ 0 → es ≡ []
-nothing [] e = refl
-nothing (x ∷ es) e = absurd (omega arith)
-
 -- a map before its trees come
 module _ {X : Type 0} (t : Option (Box (ByteMap X))) (m : ByteMap X) (is : held t ≡ m) (none : t ≡ None) where
   is_empty : empty ≡ m
@@ -198,7 +195,7 @@ module _ {X : Type 0} (t : Option (Box (ByteMap X))) (m : ByteMap X) (is : held 
   none_counted = sym (len-empty bytes_cmp X) ∙ ap len is_empty
 
   pub none_listed : [] ≡ entries m
-  none_listed = sym (nothing (entries empty) (sym (len-entries empty) ∙ len-empty bytes_cmp X)) ∙ ap entries is_empty
+  none_listed = sym (nil_from_length (entries empty) (sym (len-entries empty) ∙ len-empty bytes_cmp X)) ∙ ap entries is_empty
 
 -- entries whose keys are their own texts
 pub as_they_are : {X : Type 0} (es : Entries X) → named_by (λ k. k) es ≡ es

@@ -1,5 +1,5 @@
 -- What is done to a file and written to an output, one part after another.
-use Rattle.std.proofs.Common.{◌≡◌, ◌⊎◌, ℕ, ◌≤◌, List, [], ◌∷◌, ◌++◌, Option, Some, refl, sym, ap, subst, ◌∙◌, append_assoc, arith, length, take, drop, ◌+◌, ◌-◌, take_all, take-add, length-drop, inl, inr}
+use Rattle.std.proofs.Common.{◌≡◌, ◌⊎◌, ℕ, List, [], ◌∷◌, ◌++◌, Option, Some, refl, sym, ap, subst, ◌∙◌, append_assoc, arith, length, ◌+◌, ◌-◌, take_all, inl, inr}
 use Rattle.std.specs.Io.KnownBytes.{Appends, Keeps}
 use Rattle.std.proofs.KnownBytes.{Appends-nil, Appends-trans, Appends-kept}
 use Rattle.std.specs.Prelude.{Result, Ok, Err, OnOk, OnErr, IfErr, IsErrOf, true, false, ◌==◌}
@@ -39,21 +39,8 @@ pub all_begun : (old new : Option (List ℕ)) (bytes : List ℕ) → Appends old
 all_begun old new bytes w = (length bytes, (omega arith, subst (λ z. Appends old new z) (sym (take_all (length bytes) bytes (omega arith))) w))
 
 -- ---- bytes that are written part by part
--- what follows the first n
-abbrev pub rest_of : ℕ → List ℕ → List ℕ
-rest_of n bytes = take (length bytes - n) (drop n bytes)
-
-parts : (n k : ℕ) (bytes : List ℕ) → take n bytes ++ take k (rest_of n bytes) ≡ take (n + k) bytes
-parts n k bytes = ap (λ r. take n bytes ++ take k r) (take_all (length bytes - n) (drop n bytes) (omega (arith, length-drop n bytes))) ∙ sym (take-add n k bytes)
-
-pub some_more : (a b d : Option (List ℕ)) (bytes : List ℕ) (n k : ℕ) → Appends a b (take n bytes) → Appends b d (take k (rest_of n bytes)) → Appends a d (take (n + k) bytes)
-some_more a b d bytes n k one two = subst (λ z. Appends a d z) (parts n k bytes) (Appends-trans a b d (take n bytes) (take k (rest_of n bytes)) one two)
-
 pub no_more_written : (a b d : Option (List ℕ)) (bytes : List ℕ) → Appends a b bytes → Appends b d [] → Appends a d bytes
 no_more_written a b d bytes one two = subst (λ z. Appends a d z) (append_nil bytes) (Appends-trans a b d bytes [] one two)
-
-pub all_written : (a b : Option (List ℕ)) (bytes : List ℕ) (n : ℕ) → length bytes ≤ n → Appends a b (take n bytes) → Appends a b bytes
-all_written a b bytes n all w = subst (λ z. Appends a b z) (take_all n bytes all) w
 
 -- ---- what is done to the file
 -- no texts, no change

@@ -1,5 +1,5 @@
 -- What it takes that a call on the node of a pipe is refused.
-use Rattle.std.proofs.Common.{rules, ◌≡◌, ◌≢◌, ◌<◌, ◌-◌, ◌+◌, ℕ, List, [], ◌∷◌, ◌++◌, Bool, true, false, Option, Some, None, length, refl, sym, ap, subst, ◌∙◌, inl, inr, lit<, arith, length-append}
+use Rattle.std.proofs.Common.{◌≡◌, ◌≢◌, ◌<◌, ◌-◌, ◌+◌, ℕ, List, [], ◌∷◌, ◌++◌, Bool, true, false, Option, Some, None, length, refl, sym, ap, subst, ◌∙◌, inl, arith, length-append}
 use Rattle.std.specs.Prelude.{Err, if◌then◌else◌}
 use Rattle.mr_data.specs.declared.given.Given.{Given}
 use Rattle.mr_resp.specs.Usual.{usual}
@@ -9,6 +9,7 @@ use Rattle.mr_node_links.specs.State.{EndState, Transaction, full, unread_in}
 use Rattle.mr_node_spec.specs.State.{Core, NodeState, IsTooMuch, end_of, room_at, room_of, started}
 use Rattle.mr_node_spec.specs.ClientRows.{MayLack}
 use Rattle.mr_node_spec.specs.Requests.{Asks, IsDoomedBy, Waits}
+use Rattle.mr_node_spec.proofs.Nothing.{waits_nothing}
 use Rattle.mr_keyspace.specs.Dataset.{Dataset}
 use Rattle.mr_repl.specs.Backlog.{usual_backlog}
 use Rattle.mr_node.specs.Calls.{FeedRow, OpenRow, OpensNoMore}
@@ -25,10 +26,6 @@ use Rattle.mr_pipe.specs.declared.linked_node.LinkedNode.{LinkedNode}
 use Rattle.mr_pipe.proofs.Steps.{at_client, at_replica, at_waiting}
 
 -- ---- some bytes are unread
--- a request may follow nothing
-pub waits_nothing : Waits []
-waits_nothing = record { more = record { more = 42 ∷ 45 ∷ 49 ∷ 13 ∷ 10 ∷ []; some = lit< tt; are_bytes = search rules; whole = inr (inl (inr refl)) } }
-
 some_asked : (u : List ℕ) (words : List (List ℕ)) (rest : List ℕ) → Asks u words rest → u ≢ []
 some_asked u words rest asks none = text_wants_no_more usual asks.text rest (inl (words, asks.request)) (subst Waits (sym none ∙ asks.begins) waits_nothing).more
 

@@ -8,6 +8,7 @@ use Rattle.mr_data.specs.declared.given.Given.{Given}
 use Rattle.mr_pipe.specs.Outside.{Kept, Outside, Change, Filed}
 use Rattle.mr_node_links.specs.State.{full}
 use Rattle.mr_node_spec.specs.State.{room_of}
+use Rattle.mr_node_spec.proofs.Nothing.{waits_nothing}
 use Rattle.mr_pipe.specs.State.{PipeState, Stands}
 use Rattle.mr_pipe.specs.Sessions.{all_changes}
 use Rattle.mr_pipe.specs.Serving.{Drained, Breaks, IsLeft, Tears, IsDrained}
@@ -20,7 +21,7 @@ use Rattle.mr_pipe.specs.declared.relay.Round.{Round}
 use Rattle.mr_pipe.specs.declared.relay.Round.TheVariants as round
 use Rattle.mr_pipe.proofs.Serves.{append_nil}
 use Rattle.mr_pipe.proofs.Goings.{starts}
-use Rattle.mr_pipe.proofs.Refusals.{waits_nothing, has_room}
+use Rattle.mr_pipe.proofs.Refusals.{has_room}
 
 -- nothing was read yet
 pub no_round : (g : Given) (s : PipeState) (x : Outside) (b : Option (List ℕ)) (p : LinkedNode) → Stands p s [] → Relays g s [] x b b p x

@@ -1,5 +1,6 @@
 -- What the roles of a pipe's node and of its link leave alone.
 use Rattle.std.proofs.Common.{◌≡◌, ◌++◌, ◌∙◌, ℕ, List, [], ◌∷◌, Bool, true, false, not, None, Some, refl, sym, ap, subst}
+use Rattle.std.proofs.lemmas.Option.{same_Some}
 use Rattle.mr_data.specs.Meaning.{apply_all}
 use Rattle.mr_data.specs.declared.given.Given.{Given}
 use Rattle.mr_effect.specs.Spelling.{texts}
@@ -42,9 +43,6 @@ quiet c wish out (IsQuiet.discards_nothing is gives) = only_said out _ gives
 quiet c wish out (IsQuiet.stays_master is master gives) = only_said out _ gives
 quiet c wish out (IsQuiet.stays_replica host port is replica followed gives) = only_said out _ gives
 
-some_is : (m n : Dataset) → Some m ≡ Some n → n ≡ m
-some_is m n e = cc
-
 held_is : (c d : Core) → d ≡ c → d.held ≡ c.held
 held_is c d is = ap (λ (z : Core). z.held) is
 
@@ -53,7 +51,7 @@ answered : (s : PipeState) (u : List ℕ) (d : Core) (rest : List ℕ) (words : 
 answered s u d rest words g out k asks (Answered.within plain reply effects plan fits is gives) =
     let c = s.core in
     let none : effects ≡ [] = none_on_replica (not c.master) words g c.held _ effects (ap not k) plan.planned in
-    let left = some_is c.held _ (ap (λ (es : List Effect). apply_all es c.held) (sym none) ∙ plan.leads) in
+    let left = sym (same_Some c.held _ (ap (λ (es : List Effect). apply_all es c.held) (sym none) ∙ plan.leads)) in
     untouched s u (record s { core = d }) rest out (held_is _ d is ∙ left) (ap (λ (o : Output). o.grown) gives ∙ ap texts none, (ap (λ (o : Output). o.appended) gives ∙ ap texts none, ap (λ (o : Output). o.replaced) gives))
 answered s u d rest words g out k asks (Answered.beyond plain reply effects plan past is gives) = untouched s u (record s { core = d }) rest out (held_is s.core d is) (only_said out _ gives)
 answered s u d rest words g out k asks (Answered.rewritten wish remakes is gives) = record {

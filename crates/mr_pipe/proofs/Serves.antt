@@ -1,5 +1,6 @@
 -- Requests one after another, and however the bytes are cut.
 use Rattle.std.proofs.Common.{◌≡◌, ℕ, List, [], ◌∷◌, ◌++◌, refl, sym, ap, subst, ◌∙◌, append_assoc}
+pub use Rattle.std.proofs.lemmas.List.{append-nil as append_nil}
 use Rattle.mr_data.specs.declared.given.Given.{Given}
 use Rattle.mr_node_output.specs.Outs.{Output}
 use Rattle.mr_node_links.specs.State.{Transaction}
@@ -11,10 +12,6 @@ use Rattle.mr_node_spec.specs.ReplicaRows.{IsExpected}
 use Rattle.mr_pipe.specs.Outside.{Change}
 use Rattle.mr_pipe.specs.State.{PipeState}
 use Rattle.mr_pipe.specs.Sessions.{Moment, AreServed, IsServed, IsServedWithin, changes_of, all_changes}
-
-pub append_nil : {A : Type 0} (xs : List A) → xs ++ [] ≡ xs
-append_nil [] = refl
-append_nil (x ∷ xs) = ap (λ ys. x ∷ ys) (append_nil xs)
 
 -- one more request
 pub serves_then : (g : Given) (s : PipeState) (u : List ℕ) (ms : List Moment) (t : PipeState) (rest said : List ℕ) (e : PipeState) (left : List ℕ) (out : Output)

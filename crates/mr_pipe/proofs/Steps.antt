@@ -21,6 +21,7 @@ use Rattle.mr_commands.proofs.Doing.{do_so}
 use Rattle.mr_node_links.specs.State.{Transaction, begun, streams}
 use Rattle.mr_node_links.specs.State.EndState.{client}
 use Rattle.mr_node_links.specs.Replicas.{Lists, is_named}
+use Rattle.mr_node_links.proofs.Places.{get_other}
 use Rattle.mr_node_output.specs.Outs.{OutsState, Output, no_output}
 use Rattle.mr_repl.specs.Backlog.{usual_backlog}
 use Rattle.mr_node_spec.specs.State.{Core, NodeState, Agrees, AgreesWithin, ReplicaAgrees, end_of, started}
@@ -31,7 +32,6 @@ use Rattle.mr_node_spec.specs.ClientRows.{ClientRow, Idles, IsAnswerToPsync}
 use Rattle.mr_node_spec.specs.Transactions.{StandsBy, DropsBy, WithinRow, frame_of}
 use Rattle.mr_node_spec.specs.ReplicaRows.{ReplicaRow}
 use Rattle.mr_node_spec.specs.LinkRows.{Feeds, Opens}
-use Rattle.mr_node.proofs.Ends.{get_other}
 use Rattle.mr_node.specs.Steps.{ClientStep, ReplicaStep, Steps}
 use Rattle.mr_node.specs.Within.{WithinStep}
 use Rattle.mr_node.specs.declared.fault.NodeFault.{NodeFault}

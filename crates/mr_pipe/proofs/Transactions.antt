@@ -4,13 +4,14 @@ use Rattle.std.specs.Prelude.{All}
 use Rattle.std.specs.List.{list_all}
 use Rattle.std.proofs.lemmas.List.{length-take-le, take_all}
 use Rattle.std.proofs.lemmas.List.Elements.{All-head}
+use Rattle.std.proofs.lemmas.Option.{same_Some}
 use Rattle.mr_effect.specs.declared.effect.Effect.{Effect}
 use Rattle.mr_keyspace.specs.Dataset.{Dataset}
 use Rattle.mr_data.specs.declared.given.Given.{Given}
 use Rattle.mr_groups.specs.Effects.{IsGoodEffect}
 use Rattle.mr_groups.specs.Groups.{IsGoodGroup, can_join, group_text, grown_text}
 use Rattle.mr_groups.specs.Folding.{LeadsByGroups, LoadsGroups, MakesByGroups}
-use Rattle.mr_groups.proofs.Runs.{some_is, torn_loads_none}
+use Rattle.mr_groups.proofs.Runs.{torn_loads_none}
 use Rattle.mr_groups.proofs.Going.{makes_further, made_once}
 use Rattle.law_minired.proofs.GoodGroups.{good_as_group, good_effects}
 use Rattle.law_minired.proofs.Waited.{sound_all}
@@ -76,7 +77,7 @@ torn_at : (p : List ℕ) (a b : Kept) (xs ys : List ℕ) → a.told ≡ Some xs 
 torn_at [] a b xs ys h y t = absurd (none_is t.made t.change t.others t.are)
 torn_at (q ∷ p) a b xs ys h y t =
     let there = torn_told a.told b.told (q ∷ p) xs (half_of (Change.append (q ∷ p)) a b t) h in
-    (there.0, some_is ys (xs ++ take there.0 (q ∷ p)) (sym y ∙ there.1))
+    (there.0, same_Some ys (xs ++ take there.0 (q ∷ p)) (sym y ∙ there.1))
 
 executed_loads : (es : List Effect) (m n o : Dataset) (a b : Kept) (xs ys : List ℕ) (used : ℕ) → list_all can_join es ≡ true → All IsGoodEffect es → LeadsByGroups (grown_text es) m n → a.told ≡ Some xs → MakesByGroups xs m
     → IsTorn a b (appends (grown_text es) ++ []) → b.told ≡ Some ys → LoadsGroups ys used o → (o ≡ m) ⊎ (o ≡ n)

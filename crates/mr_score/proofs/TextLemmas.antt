@@ -12,6 +12,7 @@ use Rattle.std.proofs.lemmas.List.Sums.{position_or_len_is}
 use Rattle.std.proofs.Math.Seq.{drop-cons, drop-append-add, take-append_seam}
 use Rattle.mr_bytes.proofs.Numbers.{digit, each_is_digit, number_of-signed_decimal, number_text}
 use Rattle.mr_bytes.specs.Number.{is_i64, number_of}
+use Rattle.mr_bytes.proofs.Both.{first, second}
 use Rattle.mr_score.specs.Score.{is_score}
 use Rattle.mr_score.specs.Texts.{IsScoreText, are_zeros, score_of, whole_before, whole_part, within_limit}
 
@@ -79,14 +80,6 @@ whole_with_zeros n k fits some =
     let behind : drop (length number + 1) text ≡ zeros = drop-append-add number (46 ∷ zeros) 1 in
     let test : are_zeros (drop (length number + 1) text) ≡ true = ap are_zeros behind ∙ are_zeros-replicate k some in
     ap (λ o. whole_before o text) at ∙ ap (λ b. cond b (Some (take (length number) text)) None) test ∙ ap (λ x. Some x) (take-append_seam number (46 ∷ zeros))
-
-first : (a b : Bool) → a && b ≡ true → a ≡ true
-first true b p = refl
-first false b p = cc
-
-second : (a b : Bool) → a && b ≡ true → b ≡ true
-second true b p = p
-second false b p = cc
 
 -- where a point stands with zeros behind it
 with_zeros : (text w : List ℕ) (i : ℕ) → i < length text → is_point (get_or text i 0) ≡ true → are_zeros (drop (i + 1) text) ≡ true → take i text ≡ w → (k : ℕ) × (0 < k) × (text ≡ w ++ 46 ∷ replicate k 48)

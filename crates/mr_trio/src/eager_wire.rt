@@ -27,7 +27,7 @@ impl Wire for EagerWire {
 
     ghost failures = { λ w. w.wire.failed.count };
 
-    ghost waited = { λ _. 0 };
+    ghost waited = { λ _. record { times = 0; millis = 0 } };
 
     fn wait(&mut self, _millis: u64) -> Result<(), Failed> {
         self.wire.wait(0)

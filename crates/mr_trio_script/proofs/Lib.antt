@@ -3,7 +3,6 @@ pub mod EndsTold
 pub mod Feeds
 pub mod LineReads
 pub mod LinesPlayed
-pub mod Written
 pub mod Behinds
 pub mod Counts
 pub mod ReplyFeeds

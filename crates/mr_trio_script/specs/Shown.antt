@@ -14,5 +14,5 @@ digits_of b = encode_lower (b ∷ [])
 abbrev pub shown_byte : ℕ → List ℕ
 shown_byte b = if is_plain b then b ∷ [] else 92 ∷ 120 ∷ digits_of b
 
-abbrev pub shown : List ℕ → List ℕ
-shown bytes = flat_map shown_byte bytes
+abbrev pub escaped : List ℕ → List ℕ
+escaped bytes = flat_map shown_byte bytes

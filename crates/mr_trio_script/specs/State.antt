@@ -2,7 +2,7 @@
 use Rattle.std.specs.Prelude.{◌≡◌, ◌≢◌, ◌≤◌, ℕ, List, [], ◌++◌, length, take, drop, Bool, false, ◌||◌, Option, None, Some}
 use Rattle.std.proofs.Common.{Global, Vec}
 use Rattle.mr_links.specs.declared.link_id.LinkId.{LinkId}
-use Rattle.mr_wire.specs.Wire.{ChangesLink, WireState, behind_read, behind_write, count_of, is_over, sent_by}
+use Rattle.mr_wire.specs.Wire.{ChangesLink, WireState, behind_read, behind_write, count_of, is_over, bytes_moved}
 use Rattle.mr_wire.specs.declared.wire.Moved.{Moved}
 use Rattle.mr_trio_script.specs.Replies.{IsReply}
 
@@ -24,7 +24,7 @@ asked request a = record a { waiting = a.waiting ++ request }
 pub record Sent (tells : Bool) (a b : ClientState) (s t : WireState) : Type 0 where
   pub answer : Moved
   pub within : count_of answer ≤ length a.waiting
-  pub wire : ChangesLink s a.link (behind_write tells answer a.waiting) (sent_by tells answer a.waiting) t
+  pub wire : ChangesLink s a.link (behind_write tells answer a.waiting) (bytes_moved tells answer a.waiting) t
   pub is : b ≡ record a { waiting = drop (count_of answer) a.waiting; ended = a.ended || is_over answer }
 
 -- A read put bytes behind what had come.

@@ -2,13 +2,13 @@
 use Rattle.std.specs.Prelude.{ℕ, Bool, if◌then◌else◌, List, [], ◌∷◌, ◌++◌, codes, decimal}
 use Rattle.mr_repl.specs.ReplId.{digits_of}
 use Rattle.mr_trio_script.specs.Places.{digit_of}
-use Rattle.mr_trio_script.specs.Shown.{shown}
+use Rattle.mr_trio_script.specs.Shown.{escaped}
 use Rattle.mr_trio_script.specs.declared.ending.Ending.{Ending}
 use Rattle.mr_trio_script.specs.declared.place.Place.{Place}
 
 -- the bytes of a reply
 abbrev pub reply_line : List ℕ → List ℕ
-reply_line reply = shown reply ++ 10 ∷ []
+reply_line reply = escaped reply ++ 10 ∷ []
 
 abbrev pub role_word : Bool → List ℕ
 role_word master = if master then codes "master" else codes "slave"

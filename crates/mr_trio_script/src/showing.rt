@@ -1,13 +1,13 @@
 // Bytes as a line that can be read.
 ghost use Rattle.std.specs.Prelude.{◌≡◌, ◌++◌, IfOk, OnOk, IsTrue};
-ghost use Rattle.mr_trio_script.specs.Shown.{digits_of, is_plain, shown, shown_byte};
+ghost use Rattle.mr_trio_script.specs.Shown.{digits_of, is_plain, escaped, shown_byte};
 
 use hex::encode_to_slice;
 use std::alloc::{AllocError, Global};
 
 /// The bytes from a space to `~` as they are, but `\`; and of each other byte `\x` and its two hexadecimal digits.
 pub fn shown(alloc: Global, bytes: &[u8]) -> Result<Vec<u8>, AllocError>
-    ensures { IfOk result (λ text. text.items ≡ shown bytes.now) }
+    ensures { IfOk result (λ text. text.items ≡ escaped bytes.now) }
 {
     let mut text = Vec::new(alloc);
     for byte in bytes {

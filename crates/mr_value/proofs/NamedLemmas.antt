@@ -9,14 +9,14 @@ use Rattle.std.specs.List.Sorted.{IsStrictlySortedBy}
 use Rattle.std.specs.Ordering.{is_eq}
 use Rattle.std.specs.declared.cmp.Ordering.TheVariants.{Less, Equal, Greater}
 use Rattle.std.proofs.lemmas.Cmp.{nat_list_cmp_total, tied_itself}
-use Rattle.std.proofs.lemmas.List.{length-map}
+use Rattle.std.proofs.lemmas.List.{length-map, nil_from_length}
 use Rattle.std.proofs.lemmas.Map.Lookups.{exact_bytes}
 use Rattle.mr_map.specs.Bytes.{bytes_cmp, ByteMap}
 use Rattle.mr_order.specs.Changes.{IsFound, IsItemAt, IsOther, IsPut, IsTaken, left_at, put_at}
 use Rattle.mr_order.specs.Standing.{IsPlaceOf, StandsAt, StandsBefore}
 use Rattle.mr_value.specs.declared.named.Named.{Named}
 use Rattle.mr_value.specs.Named.{name_cmp, entry, values_of}
-use Rattle.mr_value.proofs.SetLemmas.{is_same, nothing, same_bytes}
+use Rattle.mr_value.proofs.SetLemmas.{is_same, same_bytes}
 
 -- bytes that are two names, of which one is greater
 apart : (q x y : List ℕ) → bytes_cmp x y ≡ Greater → is_same q y ≡ true → is_same q x ≡ true → ⊥
@@ -167,7 +167,7 @@ module _ {V : Type 0} where
 
   pub entries_listed : (xs : List (Named V)) → IsStrictlySortedBy name_cmp xs → finite.entries (values_of xs) ≡ map entry xs
   unfolding IsStrictlySortedBy
-  entries_listed [] h = nothing _ (sym (finite.len-entries (values_of [])) ∙ finite.len-empty bytes_cmp V)
+  entries_listed [] h = nil_from_length _ (sym (finite.len-entries (values_of [])) ∙ finite.len-empty bytes_cmp V)
   entries_listed (x ∷ xs) h =
       finite.entries-insert nat_list_cmp_total (values_of xs) x.name x.value
       ∙ ap (put bytes_cmp x.name x.value) (entries_listed xs h.1)

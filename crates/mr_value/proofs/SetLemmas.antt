@@ -14,10 +14,12 @@ use Rattle.std.specs.declared.cmp.Ordering.TheVariants.{Less, Equal, Greater}
 use Rattle.std.proofs.lemmas.Bool.{cases_lt}
 use Rattle.std.proofs.lemmas.Bool.Decides.{nat_tests}
 use Rattle.std.proofs.lemmas.Cmp.{nat_list_cmp_total}
-use Rattle.std.proofs.lemmas.List.{length-map}
+use Rattle.std.proofs.lemmas.List.{length-map, nil_from_length}
 use Rattle.std.proofs.lemmas.Map.Lookups.{exact_bytes}
 use Rattle.std.proofs.Math.ListN.{drop_of_length-le}
 use Rattle.mr_map.specs.Bytes.{bytes_cmp, ByteMap}
+use Rattle.mr_map.proofs.Conditions.{or_swap}
+use Rattle.mr_map.proofs.Domains.{one_unit}
 use Rattle.std.specs.BTreeSet.{insert_key}
 use Rattle.mr_order.specs.Changes.{IsItemAt, IsTaken, left_at}
 use Rattle.mr_order.specs.Standing.{IsPlaceOf, StandsAt, StandsBefore}
@@ -34,7 +36,7 @@ is_same q k = eq_by_cmp bytes_cmp q k
 abbrev has : List (List ℕ) → List ℕ → Bool
 has xs q = list_any (is_same q) xs
 
-tied : (r : Ordering) → is_eq r ≡ true → r ≡ Equal
+pub tied : (r : Ordering) → is_eq r ≡ true → r ≡ Equal
 tied Less e = cc
 tied Equal e = refl
 tied Greater e = cc
@@ -45,11 +47,6 @@ same_bytes q k e = exact_bytes q k (tied _ e)
 or_true : (a : Bool) → (a || true) ≡ true
 or_true true = refl
 or_true false = refl
-
-or_swap : (a b c : Bool) → (a || (b || c)) ≡ (b || (a || c))
-or_swap true true c = refl
-or_swap true false c = refl
-or_swap false b c = refl
 
 or_same : (a b : Bool) → (a || (a || b)) ≡ (a || b)
 or_same true b = refl
@@ -62,12 +59,6 @@ some_or false o = refl
 none_and : (b : Bool) (o : Option (Unit {0})) → is_some (cond b None o) ≡ (not b && is_some o)
 none_and true o = refl
 none_and false o = refl
-
-one_unit : (a b : Option (Unit {0})) → is_some a ≡ is_some b → a ≡ b
-one_unit None None e = refl
-one_unit None (Some y) e = cc
-one_unit (Some x) None e = cc
-one_unit (Some x) (Some y) e = refl
 
 -- sets that have the same members are one
 same : (s t : Set) → ((q : List ℕ) → finite.contains_key s q ≡ finite.contains_key t q) → s ≡ t
@@ -195,10 +186,6 @@ module _ (k : List ℕ) (xs ys : List (List ℕ)) (t : Option (List ℕ)) (taken
 bare : List (List ℕ) → List (List ℕ × Unit {0})
 bare ks = map {B = List ℕ × Unit {0}} (λ k. (k, tt)) ks
 
-pub nothing : {A : Type 0} (es : List A) → length es ≡ 0 → es ≡ []
-nothing [] e = refl
-nothing (x ∷ es) e = absurd (omega arith)
-
 put_first : (x : List ℕ) (xs : List (List ℕ)) → IsStrictlySortedBy bytes_cmp (x ∷ xs) → put bytes_cmp x tt (bare xs) ≡ bare (x ∷ xs)
 unfolding IsStrictlySortedBy bare
 put_first x [] h = refl
@@ -206,7 +193,7 @@ put_first x (y ∷ ys) h = rw h.0.0 refl
 
 entries_listed : (xs : List (List ℕ)) → IsStrictlySortedBy bytes_cmp xs → finite.entries (set_of xs) ≡ bare xs
 unfolding IsStrictlySortedBy bare
-entries_listed [] h = nothing _ (sym (finite.len-entries (set_of [])) ∙ finite.len-empty bytes_cmp (Unit {0}))
+entries_listed [] h = nil_from_length _ (sym (finite.len-entries (set_of [])) ∙ finite.len-empty bytes_cmp (Unit {0}))
 entries_listed (x ∷ xs) h =
     finite.entries-insert nat_list_cmp_total (set_of xs) x tt
     ∙ ap (put bytes_cmp x tt) (entries_listed xs h.1)

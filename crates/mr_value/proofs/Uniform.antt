@@ -7,7 +7,8 @@ use Rattle.std.proofs.lemmas.List.{length-append, take-append-drop}
 use Rattle.std.proofs.Math.ListN.{drop_of_length-le}
 use Rattle.std.proofs.Math.Seq.{drop-cons, drop-append_seam, take-append_seam}
 use Rattle.mr_value.specs.Lists.{are_equal}
-use Rattle.mr_bytes.proofs.Numbers.{first, second, same_bytes, equal_bytes}
+use Rattle.mr_bytes.proofs.Numbers.{same_bytes, equal_bytes}
+use Rattle.mr_bytes.proofs.Both.{first, second}
 
 -- a list turned by one place, either way
 abbrev to_left : List (List ℕ) → List (List ℕ)

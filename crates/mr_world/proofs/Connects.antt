@@ -1,7 +1,8 @@
 -- A node that dials another, or itself, at once or in two events: that what is true of each World stays.
-use Rattle.std.proofs.Common.{◌≡◌, ◌≢◌, ◌++◌, ◌∷◌, [], ℕ, cond, false, true, Option, None, Some, Result, Ok, Err, length, refl, sym, ap, subst, ◌∙◌, arith}
+use Rattle.std.proofs.Common.{◌≡◌, ◌≢◌, ◌++◌, ◌∷◌, [], ℕ, cond, false, true, None, Some, Result, Ok, Err, length, refl, sym, ap, subst, ◌∙◌, arith}
 use Rattle.std.specs.Prelude.{slice_set}
 use Rattle.std.specs.FinMap.{get, get-insert}
+use Rattle.std.proofs.lemmas.Option.{none-some}
 use Rattle.mr_links.specs.Links.{Links}
 use Rattle.mr_links.specs.declared.link_id.LinkId.{LinkId}
 use Rattle.mr_links.proofs.LinkRows.{ids_total}
@@ -25,9 +26,6 @@ use Rattle.mr_world.specs.Accepting.{AcceptCall, Accepted, ConnectCall, Connecte
 use Rattle.mr_world.specs.Connecting.{Connects, DialCall, Dialled}
 use Rattle.mr_world.proofs.Changing.{node_world, link_comes}
 use Rattle.mr_world.proofs.Kept.{apart, between, sound_is, stops_world}
-
-no_some : {A : Type 0} (x : A) → ◌≡◌ {A = Option A} None (Some x) → ⊥
-no_some x e = cc
 
 served : false ≡ true → ⊥
 served e = cc
@@ -79,7 +77,7 @@ module _ (w : WorldState) (n m : ℕ) (v : WorldState) (is : IsWorld w) (d : Con
         let served = served_end (record w { slots = slice_set w.slots m (record d.server { node = d.served }); links = w.links ++ link ∷ [] }) linked_world n d.dialler d.found d.up j y e to q in (
           served.0,
           ap (λ (z : NodeState). end_of z y.name) d.dials.node
-              ∙ (other_end d.dialler.node.ends d.name y.name upstream (λ same. no_some (end_for y.streams served.0 (unread y.ask)) (sym d.dials.fresh ∙ (ap (end_of d.dialler.node) (sym same) ∙ served.1))) ∙ served.1),
+              ∙ (other_end d.dialler.node.ends d.name y.name upstream (λ same. none-some (end_for y.streams served.0 (unread y.ask)) (sym d.dials.fresh ∙ (ap (end_of d.dialler.node) (sym same) ∙ served.1))) ∙ served.1),
         );
     sound = λ up. d.sound;
     own = λ name f up e. own_link name f e;

@@ -11,7 +11,7 @@ use Rattle.law_refinement.specs.Worlds.{IsWorld}
 use Rattle.law_refinement.specs.Carrying.{stepped, begun_slot, restarted_with}
 use Rattle.law_files.specs.Worlds.{FilesGoOn}
 use Rattle.law_files.proofs.Worlds as files
-use Rattle.mr_world.specs.Serving.{StepCall, Serves, ServedRow}
+use Rattle.mr_world.specs.Serving.{StepCall, ServesLink, ServedRow}
 use Rattle.mr_world.specs.Following.{FollowCall, Follows, HasLacked}
 use Rattle.mr_world.specs.Restarting.{RestartCall}
 use Rattle.mr_world.proofs.Filed.{no_file}
@@ -27,12 +27,12 @@ module _ (w v : WorldState) where
   served l given fresh k s b outs h (ServedRow.within t as_client agrees r) = files.within_steps w k.to l k s k.name t (unread k.ask) given b outs h.at h.up r
   served l given fresh k s b outs h (ServedRow.replica as_replica r) = files.replica_steps w k.to l k s k.name (unread k.ask) b outs h.at h.up r
 
-  serves : (l : ℕ) (given : Given) (fresh : List ℕ) → Serves w l given fresh v → FilesGoOn w v
-  serves l given fresh (Serves.carries t is) = is_as _ is (served l given fresh t.link t.slot t.node t.outs t.served t.row)
-  serves l given fresh (Serves.fails t takes is) = is_as _ is (files.stops w t.link.to t.slot (stopped_as t.node) refl)
-  serves l given fresh (Serves.idles t is) = is_as _ is (files.idle_steps w t.link.to t.slot (unread t.link.ask) t.node t.served.at t.served.up t.idles)
-  serves l given fresh (Serves.spends t is) = is_as _ is (files.stops w t.link.to t.slot t.node (spends_down t.link t.slot.node given t.node t.spends))
-  serves l given fresh (Serves.rests k at down is) = no_file w v w is refl
+  serves : (l : ℕ) (given : Given) (fresh : List ℕ) → ServesLink w l given fresh v → FilesGoOn w v
+  serves l given fresh (ServesLink.carries t is) = is_as _ is (served l given fresh t.link t.slot t.node t.outs t.served t.row)
+  serves l given fresh (ServesLink.fails t takes is) = is_as _ is (files.stops w t.link.to t.slot (stopped_as t.node) refl)
+  serves l given fresh (ServesLink.idles t is) = is_as _ is (files.idle_steps w t.link.to t.slot (unread t.link.ask) t.node t.served.at t.served.up t.idles)
+  serves l given fresh (ServesLink.spends t is) = is_as _ is (files.stops w t.link.to t.slot t.node (spends_down t.link t.slot.node given t.node t.spends))
+  serves l given fresh (ServesLink.rests k at down is) = no_file w v w is refl
 
   pub step_files : (l : ℕ) (given : Given) (fresh : List ℕ) → StepCall w l given fresh v (Ok tt) → FilesGoOn w v
   step_files l given fresh c = serves l given fresh c.1

@@ -1,5 +1,5 @@
 -- What runs lead through has files that go on.
-use Rattle.std.proofs.Common.{zero, suc, ◌≡◌, ◌⊎◌, inl, inr, ℕ, List, [], ◌∷◌, ◌++◌, Bool, true, false, Some, Result, Ok, Err, length, take, drop, refl, sym, ap, subst, ◌∙◌, append-nil, append_assoc, arith}
+use Rattle.std.proofs.Common.{zero, suc, ◌≡◌, ◌⊎◌, inl, inr, ℕ, List, [], ◌∷◌, ◌++◌, Bool, true, false, Some, Result, Ok, Err, length, take, drop, refl, sym, ap, subst, ◌∙◌, arith}
 use Rattle.std.specs.Prelude.{slice_get}
 use Rattle.law_refinement.specs.State.{Slot, WorldState}
 use Rattle.law_refinement.specs.Worlds.{IsWorld, no_world}
@@ -7,8 +7,7 @@ use Rattle.law_refinement.specs.Runs.{last_of}
 use Rattle.law_refinement.proofs.Beginning.{worlds_begin}
 use Rattle.law_refinement.proofs.Places.{is_within}
 use Rattle.law_files.specs.Worlds.{FileBegins, FileGoesOn, FilesGoOn, GoOn, HasGrown}
-use Rattle.law_files.proofs.Filing.{grow_on, kept_grows}
-use Rattle.law_files.proofs.Worlds.{files_are_true}
+use Rattle.law_files.proofs.Worlds.{files_are_true, grown_on, same_grown}
 use Rattle.mr_world_parts.specs.declared.side.Side.TheVariants as side
 use Rattle.mr_world.specs.declared.event.Event.{Event}
 use Rattle.mr_world.specs.declared.event.Event.TheVariants as event
@@ -90,16 +89,6 @@ last_at w [] = refl
 last_at w (v ∷ vs) = last_at v vs
 
 -- ---- since when a file has only grown
-same_grown : (s : Slot) → HasGrown s s
-same_grown s = record { bytes = []; file = sym (append-nil s.file); grows = kept_grows s.node.core s.node.core refl refl }
-
-grown_on : (r s t : Slot) → HasGrown r s → HasGrown s t → HasGrown r t
-grown_on r s t g h = record {
-  bytes = g.bytes ++ h.bytes;
-  file = h.file ∙ (ap (λ (z : List ℕ). z ++ h.bytes) g.file ∙ append_assoc r.file g.bytes h.bytes);
-  grows = grow_on r.node.core s.node.core t.node.core g.bytes h.bytes g.grows h.grows;
-}
-
 -- from this World on
 record Throughout (w : WorldState) (vs : List WorldState) (n : ℕ) (t : Slot) : Type 0 where
   slot : Slot

@@ -1,6 +1,7 @@
 -- A step of the node that follows by a link: how its parts make it, and that what is true of each World stays.
 use Rattle.std.proofs.Common.{◌≡◌, ◌≢◌, ◌<◌, ◌∙◌, ℕ, List, true, Option, None, Some, Result, Ok, Err, length, get_or, refl, sym, ap, subst}
 use Rattle.std.specs.Prelude.{slice_get, slice_set}
+use Rattle.std.proofs.lemmas.Option.{none-some}
 use Rattle.mr_links.specs.declared.link_id.LinkId.{LinkId}
 use Rattle.mr_data.specs.declared.given.Given.{Given}
 use Rattle.mr_follower.specs.State.{FollowState}
@@ -34,9 +35,6 @@ use Rattle.mr_world.specs.Following.{FollowCall, Follows, HasHeard, HasLacked, H
 use Rattle.mr_world.proofs.Kept.{stops_world}
 use Rattle.mr_world.proofs.Dialling.{follows_here, up_end}
 
-no_some : {A : Type 0} (x : A) → ◌≡◌ {A = Option A} None (Some x) → ⊥
-no_some x e = cc
-
 -- ---- who follows
 pub follower_here : (w : WorldState) (l n : ℕ) (name : LinkId) → IsWorld w → IsDialler w l n name → (y : Slot) → y ≡ get_or w.slots n y → y.node.core.up ≡ true → IsFollower w l n name
 follower_here w l n name is who y slot up = let v = follows_here w l n name who y slot is up in record { link = who.link; slot = who.slot; reader = v.0; by = v.1 }
@@ -56,7 +54,7 @@ module _ (w : WorldState) (l n : ℕ) (name : LinkId) (is : IsWorld w) (who : Is
         let reads = reads_by who.slot.node h.name h.follow text h.next row.course b.core.held row.told came (h.row text agrees) p.0 p.1 (sym (ap (λ (z : NodeState). z.follow) row.node) ∙ e) in
         let named : p.0 ≡ name = reads.0 ∙ row.named in
         let found : b.follow ≡ Some (name, p.1) = e ∙ ap (λ (z : LinkId). Some (z, p.1)) named in
-        let same : left ≡ Some (unread_count p.1) = (count (λ none. no_some p (sym none ∙ e))).at_master reads.1.rest runs (record { reader = p.1; found = found; agrees = reads.1.agrees }) ∙ ap Some (sym (counted p.1 reads.1.rest reads.1.agrees)) in
+        let same : left ≡ Some (unread_count p.1) = (count (λ none. none-some p (sym none ∙ e))).at_master reads.1.rest runs (record { reader = p.1; found = found; agrees = reads.1.agrees }) ∙ ap Some (sym (counted p.1 reads.1.rest reads.1.agrees)) in
         ap (λ z. heard_by z outs.reply who.link) same
 
     pub heard_is : heard_by left outs.reply who.link ≡ heard_as b.follow outs.reply who.link
@@ -121,7 +119,7 @@ module _ (w : WorldState) (l n : ℕ) (name : LinkId) (is : IsWorld w) (who : Is
       who = who;
       node = t.node;
       row = row;
-      still = λ none. no_some name (sym (ap name_of none) ∙ sound.node.only name (ap (λ (z : NodeState). end_at z.ends name) row.node ∙ up_end w l n who.link who.slot name who.reader is who.by));
+      still = λ none. none-some name (sym (ap name_of none) ∙ sound.node.only name (ap (λ (z : NodeState). end_at z.ends name) row.node ∙ up_end w l n who.link who.slot name who.reader is who.by));
       is = put;
     }
 

@@ -2,6 +2,7 @@
 use Rattle.std.proofs.Common.{◌≡◌, ◌≢◌, ◌≤◌, ◌^◌, ℕ, List, [], Bool, true, false, cond, Option, None, Some, Result, Ok, Err, refl, sym, ap, subst, ◌∙◌, arith}
 use Rattle.std.specs.Prelude.{IfSome, slice_get, slice_set}
 use Rattle.std.specs.FinMap.{empty, get, get-insert, get-empty, get-remove}
+use Rattle.std.proofs.lemmas.Option.{none-some}
 use Rattle.mr_links.specs.LinkId.{id_cmp}
 use Rattle.mr_links.specs.declared.link_id.LinkId.{LinkId}
 use Rattle.mr_links.specs.Links.{Links}
@@ -31,14 +32,11 @@ use Rattle.mr_world.specs.declared.refusal.Refusal.TheVariants as refusal
 use Rattle.mr_world.specs.Calls.{BreakCall, Breaks, StartCall, ClientCall, Clients, CommandCall, TakeCall, LeaveCall, put_link}
 use Rattle.mr_world.proofs.Changing.{SameEnds, node_world, link_world, link_comes, node_comes, master_set}
 
-no_some : {A : Type 0} (x : A) → ◌≡◌ {A = Option A} None (Some x) → ⊥
-no_some x e = cc
-
 -- ---- a node starts
 started_node : (as_replica : Bool) (port backlog : ℕ) (id : List ℕ) (m : Dataset) → IsNode (started as_replica port backlog id m)
 started_node as_replica port backlog id m = record {
   followed = tt;
-  only = λ x h. absurd (no_some upstream (sym (get-empty id_cmp x) ∙ h));
+  only = λ x h. absurd (none-some upstream (sym (get-empty id_cmp x) ∙ h));
   sends = λ x h. absurd (no_true (ap streams (sym (get-empty id_cmp x)) ∙ h));
   nobody = λ e. refl;
 }
@@ -58,7 +56,7 @@ started_sound as_replica port backlog id m is some few = record {
 
 pub start_keeps : (w v : WorldState) (id : List ℕ) (as_replica : Bool) (port backlog : ℕ) (r : Result (Unit {0}) Refusal) → IsWorld w → IsId id → 1 ≤ backlog → backlog ≤ 2 ^ 30 → StartCall w id as_replica port backlog v r → IsWorld v
 start_keeps w v id as_replica port backlog (Ok done) is named some few c = subst (λ (z : WorldState). IsWorld z) (sym c.1)
-    (node_comes w (begun_slot as_replica port backlog id empty []) (begun w.book id []) is (started_sound as_replica port backlog id empty named some few) (λ name f e. no_some (name, f) e))
+    (node_comes w (begun_slot as_replica port backlog id empty []) (begun w.book id []) is (started_sound as_replica port backlog id empty named some few) (λ name f e. none-some (name, f) e))
 start_keeps w v id as_replica port backlog (Err refusal.Drawn) is named some few c = subst (λ (z : WorldState). IsWorld z) (sym c.1) is
 start_keeps w v id as_replica port backlog (Err refusal.Memory) is named some few c = subst (λ (z : WorldState). IsWorld z) (sym c.1) is
 start_keeps w v id as_replica port backlog (Err refusal.Nobody) is named some few c = absurd c
@@ -94,7 +92,7 @@ module _ (w : WorldState) (n : ℕ) (s : Slot) (name : LinkId) (b : NodeState) (
       ∙ at_or_other x name (λ v. cond v (Some (client [])) (get s.node.ends.open_links x) ≡ get s.node.ends.open_links x) (λ same. absurd (ne same)) (λ other. refl))
 
   pub apart : (j : ℕ) (y : Link) → slice_get w.links j ≡ Some y → y.serving ≡ true → y.to ≡ n → y.name ≡ name → ⊥
-  apart j y e q to same = let served = served_end w is n s at up j y e to q in no_some (end_for y.streams served.0 (unread y.ask)) (sym o.fresh ∙ (ap (end_of s.node) (sym same) ∙ served.1))
+  apart j y e q to same = let served = served_end w is n s at up j y e to q in none-some (end_for y.streams served.0 (unread y.ask)) (sym o.fresh ∙ (ap (end_of s.node) (sym same) ∙ served.1))
 
   pub sound_is : IsSound b
   sound_is = subst IsSound (sym o.node) (let i = is.nodes n s at up in record { node = opened_node s.node name [] i.node o.fresh; window = i.window; id = i.id; second = i.second; upstream = i.upstream; reading = reads_on s.node (opened_as s.node.ends name (client [])) s.node.follow i.reading })
@@ -226,8 +224,8 @@ leave_keeps w v l (Err refusal.InputFull) is c = absurd c
 
 -- ---- a server's end closes
 pub follow_was : (l : LinkId) (o : Option (LinkId × FollowState)) (x : LinkId × FollowState) → follow_without l o ≡ Some x → o ≡ Some x
-follow_was l None x e = absurd (no_some x e)
-follow_was l (Some f) x e = at_or_other f.0 l (λ b. cond b None (Some f) ≡ Some x → Some f ≡ Some x) (λ same q. absurd (no_some x q)) (λ ne q. q) e
+follow_was l None x e = absurd (none-some x e)
+follow_was l (Some f) x e = at_or_other f.0 l (λ b. cond b None (Some f) ≡ Some x → Some f ≡ Some x) (λ same q. absurd (none-some x q)) (λ ne q. q) e
 
 pub reads_without : (a : NodeState) (l : LinkId) (o : Option (LinkId × FollowState)) → IfSome o (λ f. IsReading a f.1) → IfSome (follow_without l o) (λ f. IsReading (closed_at l a) f.1)
 reads_without a l None h = tt

@@ -17,7 +17,7 @@ pub mod Served
 pub mod Servings
 pub mod ServedEvents
 mod Spent
-mod Restarts
+pub mod Restarts
 pub mod Heard
 pub mod Happening
 pub mod Connects
@@ -26,4 +26,3 @@ pub mod Opening
 mod Connected
 mod Talking
 mod Talked
-mod Lacking

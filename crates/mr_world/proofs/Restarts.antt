@@ -2,7 +2,7 @@
 use Rattle.std.proofs.Common.{◌≡◌, ◌<◌, ◌≤◌, ◌==◌, ◌^◌, ℕ, List, Bool, true, false, not, Option, None, Some, Result, Ok, Err, length, map, get_or, refl, sym, ap, subst, ◌∙◌, arith}
 use Rattle.std.specs.Prelude.{slice_get, slice_set}
 use Rattle.std.specs.Option.{option_map}
-use Rattle.std.proofs.lemmas.Option.{slice_get-map}
+use Rattle.std.proofs.lemmas.Option.{slice_get-map, none-some}
 use Rattle.mr_links.specs.declared.link_id.LinkId.{LinkId}
 use Rattle.mr_repl.specs.ReplId.{IsId}
 use Rattle.mr_follower.specs.State.{FollowState, Agrees}
@@ -21,9 +21,6 @@ use Rattle.mr_world.specs.declared.refusal.Refusal.TheVariants as refusal
 use Rattle.mr_world.specs.Restarting.{IsThere, RestartCall, Restarts}
 use Rattle.mr_world.proofs.Changing.{changed_world}
 use Rattle.mr_world.proofs.Kept.{started_sound}
-
-no_some : {A : Type 0} (x : A) → ◌≡◌ {A = Option A} None (Some x) → ⊥
-no_some x e = cc
 
 -- ---- a link whose server's end closes, or not
 record Shuts (b : Bool) (x y : Link) : Type 0 where
@@ -46,7 +43,7 @@ shuts_one true x = record { waits = refl; untouched = λ u. record { serving = r
 shuts_one false x = record { waits = refl; untouched = λ u. u; to = refl; name = refl; caller = refl; streams = refl; ask = refl; tell = refl; serving = λ e. e; open_now = λ e. refl }
 
 from_map : (f : Link → Link) (o : Option Link) (y : Link) → option_map f o ≡ Some y → (x : Link) × (o ≡ Some x) × (y ≡ f x)
-from_map f None y e = absurd (no_some y e)
+from_map f None y e = absurd (none-some y e)
 from_map f (Some x) y e = (x, refl, sym (some_is (f x) y e))
 
 here_is : (m n : ℕ) → m ≡ n → (m == n) ≡ false → ⊥
@@ -87,7 +84,7 @@ module _ (w : WorldState) (n : ℕ) (s t : Slot) (is : IsWorld w) (at : slice_ge
         let one : v.0 ≡ x = some_is v.0 x (sym v.1 ∙ d) in
         ap (λ (z : Link). end_for z.streams held (unread z.ask)) (sym one) ∙ (ap (λ z. end_for z held (unread v.0.ask)) (sym v.2.streams) ∙ ap (λ z. end_for y.streams held (unread z)) (sym v.2.ask));
     sound = λ up. sound;
-    own = λ name f up e. absurd (no_some (name, f) (sym alone ∙ e));
+    own = λ name f up e. absurd (none-some (name, f) (sym alone ∙ e));
     onward = λ i u name f apart h. master i u name f h;
   })
 

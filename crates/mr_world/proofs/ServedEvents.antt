@@ -21,7 +21,7 @@ use Rattle.law_refinement.proofs.Unaccepted.{served_to}
 use Rattle.law_refinement.proofs.Within.{within_steps}
 use Rattle.mr_world_parts.specs.AtNode.{is_spent}
 use Rattle.mr_world.specs.Calls.{IsDown, ServesAt}
-use Rattle.mr_world.specs.Serving.{HasServed, ServedRow, Serves}
+use Rattle.mr_world.specs.Serving.{HasServed, ServedRow, ServesLink}
 use Rattle.mr_world.proofs.Spent.{spends_down}
 
 -- an id that may be drawn has no entry
@@ -52,9 +52,9 @@ module _ (w : WorldState) (book : Book minired) (l : ℕ) (given : Given) (fresh
     };
   }
 
-  pub step_is_event : (v : WorldState) → is_spent w.book fresh ≡ false → Serves w l given fresh v → Event v
-  step_is_event v unspent (Serves.carries t e) = subst Event (sym e) (served_event unspent t)
-  step_is_event v unspent (Serves.fails t takes e) = subst Event (sym e) (stopped_steps w book l t.link t.slot given fresh (stopped_as t.node) holds t.served refl)
-  step_is_event v unspent (Serves.idles t e) = subst Event (sym e) (idle_steps w book l t.link t.slot given fresh t.node holds t.served t.idles)
-  step_is_event v unspent (Serves.spends t e) = subst Event (sym e) (stopped_steps w book l t.link t.slot given fresh t.node holds t.served (spends_down t.link t.slot.node given t.node t.spends))
-  step_is_event v unspent (Serves.rests k at down e) = subst Event (sym e) (rests_event k at down)
+  pub step_is_event : (v : WorldState) → is_spent w.book fresh ≡ false → ServesLink w l given fresh v → Event v
+  step_is_event v unspent (ServesLink.carries t e) = subst Event (sym e) (served_event unspent t)
+  step_is_event v unspent (ServesLink.fails t takes e) = subst Event (sym e) (stopped_steps w book l t.link t.slot given fresh (stopped_as t.node) holds t.served refl)
+  step_is_event v unspent (ServesLink.idles t e) = subst Event (sym e) (idle_steps w book l t.link t.slot given fresh t.node holds t.served t.idles)
+  step_is_event v unspent (ServesLink.spends t e) = subst Event (sym e) (stopped_steps w book l t.link t.slot given fresh t.node holds t.served (spends_down t.link t.slot.node given t.node t.spends))
+  step_is_event v unspent (ServesLink.rests k at down e) = subst Event (sym e) (rests_event k at down)

@@ -23,7 +23,7 @@ use Rattle.mr_world_parts.specs.Answering.{Carries, IsBehind, IsServing, answere
 use Rattle.mr_world_parts.proofs.Places.{stands, set_twice}
 use Rattle.mr_world.specs.declared.refusal.Refusal.{Refusal}
 use Rattle.mr_world.specs.declared.refusal.Refusal.TheVariants as refusal
-use Rattle.mr_world.specs.Serving.{HasServed, MayLackAt, NeedsMemory, ServedRow, Serves, Spends, StepCall}
+use Rattle.mr_world.specs.Serving.{HasServed, MayLackAt, NeedsMemory, ServedRow, ServesLink, Spends, StepCall}
 use Rattle.mr_world.proofs.Changing.{HasEnd}
 use Rattle.mr_world.proofs.Feeding.{its_end}
 use Rattle.mr_world.proofs.Kept.{stops_world}
@@ -41,12 +41,12 @@ served_keeps w l given fresh is t = elim t.row [
 
 pub step_keeps : (w v : WorldState) (l : ℕ) (given : Given) (fresh : List ℕ) (r : Result (Unit {0}) Refusal) → IsWorld w → StepCall w l given fresh v r → IsWorld v
 step_keeps w v l given fresh (Ok done) is c = elim c.1 [
-  | Serves.carries t e ↦ subst (λ (z : WorldState). IsWorld z) (sym e) (served_keeps w l given fresh is t)
-  | Serves.fails t takes e ↦ subst (λ (z : WorldState). IsWorld z) (sym e) (stops_world w t.link.to t.slot (stopped_as t.node) is t.served.at refl)
-  | Serves.idles t e ↦ subst (λ (z : WorldState). IsWorld z)
+  | ServesLink.carries t e ↦ subst (λ (z : WorldState). IsWorld z) (sym e) (served_keeps w l given fresh is t)
+  | ServesLink.fails t takes e ↦ subst (λ (z : WorldState). IsWorld z) (sym e) (stops_world w t.link.to t.slot (stopped_as t.node) is t.served.at refl)
+  | ServesLink.idles t e ↦ subst (λ (z : WorldState). IsWorld z)
       (sym (e ∙ (ap (put_node w t.link.to t.slot) t.idles.same ∙ ap (λ (z : List Slot). record w { slots = z }) (set_same w.slots t.link.to t.slot t.served.at)))) is
-  | Serves.spends t e ↦ subst (λ (z : WorldState). IsWorld z) (sym e) (stops_world w t.link.to t.slot t.node is t.served.at (spends_down t.link t.slot.node given t.node t.spends))
-  | Serves.rests k at down e ↦ subst (λ (z : WorldState). IsWorld z) (sym e) is
+  | ServesLink.spends t e ↦ subst (λ (z : WorldState). IsWorld z) (sym e) (stops_world w t.link.to t.slot t.node is t.served.at (spends_down t.link t.slot.node given t.node t.spends))
+  | ServesLink.rests k at down e ↦ subst (λ (z : WorldState). IsWorld z) (sym e) is
 ]
 step_keeps w v l given fresh (Err refusal.Drawn) is c = subst (λ (z : WorldState). IsWorld z) (sym c.1) is
 step_keeps w v l given fresh (Err refusal.Nobody) is c = subst (λ (z : WorldState). IsWorld z) (sym c.2) is
@@ -124,8 +124,8 @@ module _ (w : WorldState) (l n : ℕ) (name : LinkId) (given : Given) (fresh : L
       pub never_full : r ≡ Err fault.InputFull → ⊥
       never_full e = elim (subst (λ z. AtServer v.link v.slot.node given fresh t.node z) e came) [ AtServer.client q g p ↦ p | AtServer.within held q g p ↦ p | AtServer.replica q p ↦ p ]
 
-      pub idles_there : r ≡ Ok step.Idle → Serves w l given fresh (record w { slots = slice_set w.slots n t })
-      idles_there e = Serves.idles (record {
+      pub idles_there : r ≡ Ok step.Idle → ServesLink w l given fresh (record w { slots = slice_set w.slots n t })
+      idles_there e = ServesLink.idles (record {
         link = v.link;
         slot = v.slot;
         served = v.served;
@@ -133,10 +133,10 @@ module _ (w : WorldState) (l n : ℕ) (name : LinkId) (given : Given) (fresh : L
         idles = elim (subst (λ z. AtServer v.link v.slot.node given fresh t.node z) e came) [ AtServer.client q g p ↦ p | AtServer.within held q g p ↦ p | AtServer.replica q p ↦ p ];
       }) put
 
-      spent : Spends v.link v.slot.node given t.node → Serves w l given fresh (record w { slots = slice_set w.slots n t })
-      spent p = Serves.spends (record { link = v.link; slot = v.slot; served = v.served; node = t.node; spends = p }) put
+      spent : Spends v.link v.slot.node given t.node → ServesLink w l given fresh (record w { slots = slice_set w.slots n t })
+      spent p = ServesLink.spends (record { link = v.link; slot = v.slot; served = v.served; node = t.node; spends = p }) put
 
-      pub spends_there : r ≡ Err fault.Stopped → Serves w l given fresh (record w { slots = slice_set w.slots n t })
+      pub spends_there : r ≡ Err fault.Stopped → ServesLink w l given fresh (record w { slots = slice_set w.slots n t })
       spends_there e = elim (subst (λ z. AtServer v.link v.slot.node given fresh t.node z) e came) [
         | AtServer.client q g p ↦ spent (Spends.client q g p)
         | AtServer.within held q g p ↦ spent (Spends.within held q g p)
@@ -177,8 +177,8 @@ module _ (w : WorldState) (l n : ℕ) (name : LinkId) (given : Given) (fresh : L
             (subst (λ (z : Link). IsBehind t.node z.name outs) (some_is v.link k (sym v.served.found ∙ found)) its_behind)
 
         pub carries_there : (sound : IsSound t.node) (id : List ℕ) (offset : ℕ) (y : Slot) (u : WorldState) → y ≡ get_or w.slots n y → shown y.node.core ≡ Some (id, offset)
-            → Carries (record w { slots = slice_set w.slots n t }) n l id offset outs u → Serves w l given fresh u
-        carries_there sound id offset y u early shows c = elim (c t v.link (set_here w.slots n t v.slot placed) v.served.found) [ inl q ↦ Serves.carries had (q ∙ all) | inr q ↦ Serves.fails had q.0 (q.1 ∙ stop) ]
+            → Carries (record w { slots = slice_set w.slots n t }) n l id offset outs u → ServesLink w l given fresh u
+        carries_there sound id offset y u early shows c = elim (c t v.link (set_here w.slots n t v.slot placed) v.served.found) [ inl q ↦ ServesLink.carries had (q ∙ all) | inr q ↦ ServesLink.fails had q.0 (q.1 ∙ stop) ]
           where
             had : HasServed w l given fresh
             had = record { link = v.link; slot = v.slot; served = v.served; node = t.node; outs = outs; row = row_there; sound = sound }
@@ -208,8 +208,8 @@ module _ (w : WorldState) (l to : ℕ) (k : Link) (within : l < length w.links) 
   the_slot : slice_get w.slots k.to ≡ Some x
   the_slot = ap (slice_get w.slots) (sym at) ∙ stands w.slots to x there slot
 
-  pub rests_there : (given : Given) (fresh : List ℕ) → x.node.core.up ≡ false → Serves w l given fresh w
-  rests_there given fresh down = Serves.rests k (record { found = the_link; serving = serving }) (record { slot = x; at = the_slot; down = down }) refl
+  pub rests_there : (given : Given) (fresh : List ℕ) → x.node.core.up ≡ false → ServesLink w l given fresh w
+  rests_there given fresh down = ServesLink.rests k (record { found = the_link; serving = serving }) (record { slot = x; at = the_slot; down = down }) refl
 
   pub serving_there : (name : LinkId) → name ≡ k.name → x.node.core.up ≡ true → IsServing w l to name
   serving_there name named up = record { link = k; slot = x; served = record { found = the_link; serving = serving; at = the_slot; up = up }; number = at; named = named }

@@ -37,7 +37,7 @@ use Rattle.mr_world.specs.Calls.{Clients, ClientCall, CommandCall, TakeCall, Lea
 use Rattle.mr_world.specs.Linking.{BreaksOff, Delivers, DeliverCall, DropCall}
 use Rattle.mr_world.specs.Hearing.{ListenCall, Tells}
 use Rattle.mr_world.specs.Stepping.{TickCall, Ticks}
-use Rattle.mr_world.specs.Serving.{HasServed, ServedRow, Serves}
+use Rattle.mr_world.specs.Serving.{HasServed, ServedRow, ServesLink}
 use Rattle.mr_world.specs.Following.{Follows}
 use Rattle.mr_world.specs.Accepting.{Accepted, Connected}
 use Rattle.mr_world.specs.Connecting.{Dialled}
@@ -284,12 +284,12 @@ module _ (w v : WorldState) (is : IsWorld w) (l : ℕ) (k : Link) (found : slice
   none_here true there = there
   none_here false there = there
 
-  step_goes : (m : ℕ) (given : Given) (fresh : List ℕ) (c : Serves w m given fresh v) → There v.links l k (if m == l then turns_in w m given fresh v c else [])
-  step_goes m given fresh (Serves.carries t e) = as_links _ _ e (served_goes m given fresh t (m == l) refl)
-  step_goes m given fresh (Serves.fails t takes e) = none_here (m == l) (same (ap (λ (z : WorldState). z.links) e))
-  step_goes m given fresh (Serves.idles t e) = none_here (m == l) (same (ap (λ (z : WorldState). z.links) e))
-  step_goes m given fresh (Serves.spends t e) = none_here (m == l) (same (ap (λ (z : WorldState). z.links) e))
-  step_goes m given fresh (Serves.rests j at down e) = none_here (m == l) (same (ap (λ (z : WorldState). z.links) e))
+  step_goes : (m : ℕ) (given : Given) (fresh : List ℕ) (c : ServesLink w m given fresh v) → There v.links l k (if m == l then turns_in w m given fresh v c else [])
+  step_goes m given fresh (ServesLink.carries t e) = as_links _ _ e (served_goes m given fresh t (m == l) refl)
+  step_goes m given fresh (ServesLink.fails t takes e) = none_here (m == l) (same (ap (λ (z : WorldState). z.links) e))
+  step_goes m given fresh (ServesLink.idles t e) = none_here (m == l) (same (ap (λ (z : WorldState). z.links) e))
+  step_goes m given fresh (ServesLink.spends t e) = none_here (m == l) (same (ap (λ (z : WorldState). z.links) e))
+  step_goes m given fresh (ServesLink.rests j at down e) = none_here (m == l) (same (ap (λ (z : WorldState). z.links) e))
 
   goes_by : (e : Event) (c : EventCall w e v (Ok tt)) → There v.links l k (turns_by l w e v c)
   goes_by (event.Start id config) c = same (ap (λ (z : WorldState). z.links) c.1)

@@ -4,7 +4,7 @@ use Rattle.std.specs.Prelude.{slice_get, slice_set}
 use Rattle.mr_node_output.specs.Outs.{OutsState}
 use Rattle.mr_node_spec.specs.Sound.{IsSound}
 use Rattle.mr_node_spec.specs.State.{Core, NodeState, shown, stopped_as}
-use Rattle.mr_node_spec.specs.TimeRows.{TickRow}
+use Rattle.mr_node_spec.specs.TimeRows.{HasDue, TickRow}
 use Rattle.law_refinement.specs.State.{BookEntry, Link, Slot, WorldState}
 use Rattle.law_refinement.specs.Worlds.{IsWorld}
 use Rattle.law_refinement.specs.Carrying.{booked_as, filed, reached, said_on}
@@ -14,8 +14,7 @@ use Rattle.mr_world_parts.specs.Memory.{TakesMemory}
 use Rattle.mr_world_parts.proofs.Places.{stands, set_twice}
 use Rattle.mr_world.specs.declared.refusal.Refusal.{Refusal}
 use Rattle.mr_world.specs.declared.refusal.Refusal.TheVariants as refusal
-use Rattle.mr_world.specs.Calls.{Runs}
-use Rattle.mr_world.specs.Stepping.{HasTicked, TickCall, Ticks}
+use Rattle.mr_world.specs.Stepping.{HasTicked, NeedsTick, TickCall, Ticks}
 use Rattle.mr_world.proofs.Joins.{put_same}
 use Rattle.mr_world.proofs.Kept.{stops_world}
 
@@ -45,9 +44,9 @@ module _ (w : WorldState) (n : ℕ) (now : ℤ) (x : Slot) (within : n < length 
   pub rests_shown : shown x.node.core ≡ None → Ticks w n now w
   rests_shown e = Ticks.rests (record { slot = x; at = stands w.slots n x within slot; down = shows_none x.node.core e }) refl
 
-  pub tick_lacks : (t : Slot) → t ≡ record x { node = t.node } → x.node.core.up ≡ true → t.node ≡ x.node → Runs w n × (◌≡◌ {A = WorldState} (record w { slots = slice_set w.slots n t }) w)
-  tick_lacks t rest up e = (
-    record { slot = x; running = record { at = stands w.slots n x within slot; up = up } },
+  pub tick_lacks : (t : Slot) → t ≡ record x { node = t.node } → x.node.core.up ≡ true → t.node ≡ x.node → HasDue x.node now → NeedsTick w n now × (◌≡◌ {A = WorldState} (record w { slots = slice_set w.slots n t }) w)
+  tick_lacks t rest up e due = (
+    record { slot = x; running = record { at = stands w.slots n x within slot; up = up }; due = due },
     ap (λ (z : List Slot). record w { slots = z }) (put_same w.slots n x t slot (rest ∙ ap (λ (z : NodeState). record x { node = z }) e)),
   )
 

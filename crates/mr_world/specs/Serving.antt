@@ -67,12 +67,12 @@ pub record IsCarried (w : WorldState) (n l : ℕ) (id : List ℕ) (offset : ℕ)
 
 -- what the node gave out is carried; or that takes memory, and the node stops; or nothing whole is there; or the node spends its dataset; or it is stopped,
 -- and nothing happens
-pub data Serves (w : WorldState) (l : ℕ) (given : Given) (fresh : List ℕ) (v : WorldState) : Type 0 where
-  carries : (t : HasServed w l given fresh) → v ≡ stepped w t.link.to t.slot l t.link t.node t.outs → Serves w l given fresh v
-  fails : (t : HasServed w l given fresh) → TakesMemory t.outs → v ≡ put_node w t.link.to t.slot (stopped_as t.node) → Serves w l given fresh v
-  idles : (t : HasIdled w l) → v ≡ put_node w t.link.to t.slot t.node → Serves w l given fresh v
-  spends : (t : HasSpent w l given) → v ≡ put_node w t.link.to t.slot t.node → Serves w l given fresh v
-  rests : (k : Link) → ServesAt w l k → IsDown w k.to → v ≡ w → Serves w l given fresh v
+pub data ServesLink (w : WorldState) (l : ℕ) (given : Given) (fresh : List ℕ) (v : WorldState) : Type 0 where
+  carries : (t : HasServed w l given fresh) → v ≡ stepped w t.link.to t.slot l t.link t.node t.outs → ServesLink w l given fresh v
+  fails : (t : HasServed w l given fresh) → TakesMemory t.outs → v ≡ put_node w t.link.to t.slot (stopped_as t.node) → ServesLink w l given fresh v
+  idles : (t : HasIdled w l) → v ≡ put_node w t.link.to t.slot t.node → ServesLink w l given fresh v
+  spends : (t : HasSpent w l given) → v ≡ put_node w t.link.to t.slot t.node → ServesLink w l given fresh v
+  rests : (k : Link) → ServesAt w l k → IsDown w k.to → v ≡ w → ServesLink w l given fresh v
 
 -- Memory can be lacking for these unread bytes of a client, or of a replica.
 abbrev pub MayLackAt : Bool → List ℕ → Type 0
@@ -87,7 +87,7 @@ pub record NeedsMemory (w : WorldState) (l : ℕ) : Type 0 where
   pub may_lack : MayLackAt link.streams (unread link.ask)
 
 abbrev pub StepCall : WorldState → ℕ → Given → List ℕ → WorldState → Result (Unit {0}) Refusal → Type 0
-StepCall w l given fresh v (Ok done) = (is_spent w.book fresh ≡ false) × Serves w l given fresh v
+StepCall w l given fresh v (Ok done) = (is_spent w.book fresh ≡ false) × ServesLink w l given fresh v
 StepCall w l given fresh v (Err refusal.Drawn) = (is_spent w.book fresh ≡ true) × (v ≡ w)
 StepCall w l given fresh v (Err refusal.Nobody) = (is_spent w.book fresh ≡ false) × NoneServes w l × (v ≡ w)
 StepCall w l given fresh v (Err refusal.Memory) = (is_spent w.book fresh ≡ false) × NeedsMemory w l × (v ≡ w)

@@ -12,7 +12,7 @@ use Rattle.law_refinement.specs.Worlds.{IsWorld}
 use Rattle.mr_world_parts.specs.declared.side.Side.TheVariants as side
 use Rattle.mr_world.specs.declared.event.Event.{Event}
 use Rattle.mr_world.specs.declared.event.Event.TheVariants as event
-use Rattle.mr_world.specs.Serving.{HasServed, Serves}
+use Rattle.mr_world.specs.Serving.{HasServed, ServesLink}
 use Rattle.mr_world.specs.Running.{AreMoments, EventCall, TookAll}
 
 -- a step used this of the unread bytes, in front, and said that
@@ -38,12 +38,12 @@ abbrev pub turn_of : (w : WorldState) (l : ℕ) (given : Given) (fresh : List �
 turn_of w l given fresh t = record { used = used_at (end_of t.node t.link.name) (unread t.link.ask); said = t.outs.reply }
 
 -- the turn of a step, where what it gave out was carried
-abbrev pub turns_in : (w : WorldState) (l : ℕ) (given : Given) (fresh : List ℕ) (v : WorldState) → Serves w l given fresh v → List Turn
-turns_in w l given fresh v (Serves.carries t is) = turn_of w l given fresh t ∷ []
-turns_in w l given fresh v (Serves.fails t takes is) = []
-turns_in w l given fresh v (Serves.idles t is) = []
-turns_in w l given fresh v (Serves.spends t is) = []
-turns_in w l given fresh v (Serves.rests k at down is) = []
+abbrev pub turns_in : (w : WorldState) (l : ℕ) (given : Given) (fresh : List ℕ) (v : WorldState) → ServesLink w l given fresh v → List Turn
+turns_in w l given fresh v (ServesLink.carries t is) = turn_of w l given fresh t ∷ []
+turns_in w l given fresh v (ServesLink.fails t takes is) = []
+turns_in w l given fresh v (ServesLink.idles t is) = []
+turns_in w l given fresh v (ServesLink.spends t is) = []
+turns_in w l given fresh v (ServesLink.rests k at down is) = []
 
 -- .. of an event that was taken, where it is a step at the server's end of the link l
 abbrev pub turns_by : (l : ℕ) (w : WorldState) (e : Event) (v : WorldState) → EventCall w e v (Ok tt) → List Turn

@@ -1,5 +1,6 @@
 -- What the outs of a step tell of the link at which it was made.
 use Rattle.std.proofs.Common.{◌≡◌, ℕ, List, ◌&&◌, Bool, true, false, not, Option, None, Some, IsTrue, refl, sym, ap, ◌∙◌, length}
+use Rattle.std.proofs.lemmas.Bool.{both_ways}
 use Rattle.mr_links.specs.declared.link_id.LinkId.{LinkId}
 use Rattle.mr_node_links.specs.State.{EndState}
 use Rattle.mr_node_links.specs.State.EndState.{client, waiting, replica}
@@ -13,13 +14,10 @@ use Rattle.law_refinement.specs.Carrying.{fed_if, is_at, reached, settled, shut_
 use Rattle.law_refinement.proofs.Places.{some_is}
 use Rattle.mr_world_parts.specs.Answering.{EndsAs, IsBehind}
 
-both : (b : Bool) → b ≡ true → b ≡ false → ⊥
-both b p q = cc
-
 module _ (b : NodeState) (name : LinkId) (outs : OutsState) (h : IsBehind b name outs) where
   pub some_unread : outs.closes ≡ false → IsUnread b name None → ⊥
   some_unread stays i = elim h.end [
-    | EndsAs.closed e is ↦ both outs.closes e stays
+    | EndsAs.closed e is ↦ both_ways outs.closes stays e
     | EndsAs.asks e u is ↦ none_is (length u) (i.at_client u h.up (record { is = is }))
     | EndsAs.waits e t u is ↦ none_is (length u) (i.at_waiting t u h.up (record { is = is }))
     | EndsAs.streams e u is ↦ none_is (length u) (i.at_replica u h.up (record { is = is }))
@@ -32,7 +30,7 @@ module _ (b : NodeState) (name : LinkId) (outs : OutsState) (h : IsBehind b name
   pub stays_settled : (k : Link) (as_client : Bool) (left : ℕ) → name ≡ k.name → outs.closes ≡ false → IsUnread b name (Some left) → (IsTrue as_client → IsClients b name) → (IsClients b name → IsTrue as_client)
       → record k { streams = not as_client; ask = left_on left k.ask } ≡ settled (end_of b k.name) k
   stays_settled k as_client left same stays i is_one one_is = elim h.end [
-    | EndsAs.closed e is ↦ absurd (both outs.closes e stays)
+    | EndsAs.closed e is ↦ absurd (both_ways outs.closes stays e)
     | EndsAs.asks e u is ↦ settles true (length u) (client u) is (one_is (IsClients.alone u (record { is = is }))) (i.at_client u h.up (record { is = is })) refl
     | EndsAs.waits e t u is ↦ settles true (length u) (waiting t u) is (one_is (IsClients.within t u (record { is = is }))) (i.at_waiting t u h.up (record { is = is })) refl
     | EndsAs.streams e u is ↦ settles false (length u) (replica u) is (not_true as_client (λ c. no_client u is (is_one c))) (i.at_replica u h.up (record { is = is })) refl

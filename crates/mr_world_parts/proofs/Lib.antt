@@ -1,6 +1,6 @@
 pub mod Places
 mod Undone
-mod Lacking
+pub mod Lacking
 mod Behind
 mod Answered
 pub mod Room

@@ -1,14 +1,12 @@
 -- When what comes is too much for an end.
 use Rattle.std.proofs.Common.{◌≡◌, ◌+◌, ◌-◌, ◌<◌, ◌^◌, ℕ, Bool, true, false, Option, None, Some, length, refl, arith}
 use Rattle.std.specs.Prelude.{if◌then◌else◌}
+pub use Rattle.std.proofs.lemmas.Option.{none-some as no_some}
 use Rattle.mr_links.specs.declared.link_id.LinkId.{LinkId}
 use Rattle.mr_node_links.specs.State.{EndState, full, serves, unread_in}
 use Rattle.mr_node_links.specs.State.EndState.{client, waiting, replica, upstream, shut}
 use Rattle.mr_node_spec.specs.State.{NodeState, IsTooMuch, end_of, room_at, room_of}
 use Rattle.law_refinement.proofs.Places.{some_is}
-
-pub no_some : {A : Type 0} (x : A) → ◌≡◌ {A = Option A} None (Some x) → ⊥
-no_some x e = cc
 
 record IsOver (o : Option EndState) (count : ℕ) : Type 0 where
   pub end : EndState

@@ -1,6 +1,7 @@
 -- A node among others: which ids can't be drawn, how it begins with what a file holds, how it dials, and by which link it follows.
-use Rattle.std.specs.Prelude.{◌≡◌, ◌≢◌, ◌||◌, ℕ, List, Bool, true, None, Result, Ok, Err, bytes_eq, is_some, take}
+use Rattle.std.specs.Prelude.{◌≡◌, ◌≢◌, ◌<◌, ◌||◌, ℕ, List, Bool, true, None, Result, Ok, Err, bytes_eq, is_some, take}
 use Rattle.mr_links.specs.declared.link_id.LinkId.{LinkId}
+use Rattle.mr_links.specs.Links.{links_limit}
 use Rattle.mr_keyspace.specs.Dataset.{Dataset}
 use Rattle.mr_groups.specs.Folding.{LoadsGroups}
 use Rattle.mr_repl.specs.ReplId.{zero_id}
@@ -25,10 +26,10 @@ pub record IsLoaded (kept : List ℕ) (as_replica : Bool) (port backlog : ℕ) (
   pub loads : LoadsGroups kept used held
   pub is : s ≡ begun_slot as_replica port backlog id held (take used kept)
 
--- The row of a node that dials, where what it says first isn't looked at.
+-- The row of a node that dials, by a link of those that there may be, where what it says first isn't looked at.
 abbrev pub DialsBy : NodeState → NodeState → Result LinkId NodeFault → Type 0
-DialsBy a b (Ok l) = (outs : OutsState) × (a.core.up ≡ true) × Dials a l b outs
-DialsBy a b (Err fault.Memory) = (a.core.up ≡ true) × (b ≡ a)
+DialsBy a b (Ok l) = (outs : OutsState) × (a.core.up ≡ true) × Dials a l b outs × (a.ends.opened < links_limit)
+DialsBy a b (Err fault.Memory) = (a.core.up ≡ true) × (b ≡ a) × (a.ends.opened < links_limit)
 DialsBy a b (Err fault.Stopped) = OpensNoMore a b
 DialsBy a b (Err fault.NoLink) = ⊥
 DialsBy a b (Err fault.InputFull) = ⊥

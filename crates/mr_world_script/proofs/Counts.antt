@@ -5,7 +5,8 @@ use Rattle.std.specs.Str.{bytes_eq}
 use Rattle.std.specs.Str.Parse.{digits_value}
 use Rattle.std.proofs.lemmas.Bool.{ltb-true, lt-ltb}
 use Rattle.std.proofs.lemmas.Fmt.{decimal_is_IsNumeral}
-use Rattle.mr_bytes.proofs.Numbers.{first, second, same_bytes, equal_bytes}
+use Rattle.mr_bytes.proofs.Numbers.{same_bytes, equal_bytes}
+use Rattle.mr_bytes.proofs.Both.{first, second}
 use Rattle.mr_world_script.specs.Words.{count_of}
 
 -- A number's own text reads as that number.

@@ -7,10 +7,10 @@ use Rattle.std.proofs.lemmas.Bool.Decides.{nat_tests}
 use Rattle.std.proofs.lemmas.Fmt.{decimal_by_steps}
 use Rattle.std.proofs.lemmas.List.Elements.{All-append, All-cons, All-head, All-nil, All-tail, All-weaker}
 use Rattle.std.proofs.lemmas.List.Sums.{AllPass-from_list_all}
+use Rattle.mr_bytes.proofs.Both.{first}
 use Rattle.hex.specs.Hex.{encode_lower, encode_with, lower_digits}
 use Rattle.mr_repl.specs.ReplId.{IsId, digits_of, is_lower_digit}
 use Rattle.mr_repl.proofs.IdTexts.{texts_are_forty}
-use Rattle.mr_bytes.proofs.Numbers.{first}
 use Rattle.mr_world_script.specs.Answers.{answer_text, is_plain, is_printable, IsAnswer, numbered, printed, printed_byte}
 use Rattle.mr_world_script.specs.declared.answer.ScriptAnswer.{ScriptAnswer}
 use Rattle.mr_world_script.specs.declared.answer.ScriptAnswer.TheVariants.{Node, Link, Done, Refused, Bad, Shows, Stopped, Bytes}

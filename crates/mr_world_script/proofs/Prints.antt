@@ -17,14 +17,14 @@ digits_tell b c small fits e =
     cc
 
 -- the byte itself, or its digits behind `\x`
-abbrev shown : Bool → ℕ → List ℕ
-shown plain b = cond plain (b ∷ []) (92 ∷ 120 ∷ encode_lower (b ∷ []))
+abbrev byte_text : Bool → ℕ → List ℕ
+byte_text plain b = cond plain (b ∷ []) (92 ∷ 120 ∷ encode_lower (b ∷ []))
 
 plain_is_no_mark : (b : ℕ) → is_plain b ≡ true → b ≡ 92 → ⊥
 plain_is_no_mark b h e = let at : is_plain 92 ≡ true = sym (ap is_plain e) ∙ h in cc
 
 -- what two bytes are printed as with anything behind it
-same_byte : (p q : Bool) (b c : ℕ) (xs ys : List ℕ) → is_plain b ≡ p → is_plain c ≡ q → b < 256 → c < 256 → shown p b ++ xs ≡ shown q c ++ ys → (b ≡ c) × (xs ≡ ys)
+same_byte : (p q : Bool) (b c : ℕ) (xs ys : List ℕ) → is_plain b ≡ p → is_plain c ≡ q → b < 256 → c < 256 → byte_text p b ++ xs ≡ byte_text q c ++ ys → (b ≡ c) × (xs ≡ ys)
 unfolding encode_with
 same_byte true true b c xs ys s t small fits e = (cc, cc)
 same_byte true false b c xs ys s t small fits e = absurd (plain_is_no_mark b s cc)
@@ -34,7 +34,7 @@ same_byte false false b c xs ys s t small fits e =
     let low : slice_index lower_digits (b % 16) ≡ slice_index lower_digits (c % 16) = ap (λ zs. get_or zs 3 0) e in
     (digits_tell b c small fits (λ i. high i ∷ low i ∷ []), cc)
 
-some_shown : (p : Bool) (b : ℕ) (xs : List ℕ) → shown p b ++ xs ≡ [] → ⊥
+some_shown : (p : Bool) (b : ℕ) (xs : List ℕ) → byte_text p b ++ xs ≡ [] → ⊥
 some_shown true b xs e = cc
 some_shown false b xs e = cc
 

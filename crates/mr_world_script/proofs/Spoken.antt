@@ -7,7 +7,8 @@ use Rattle.std.proofs.lemmas.Bool.{lt-ltb}
 use Rattle.std.proofs.lemmas.Int.{ints}
 use Rattle.mr_data.specs.Given.{IsMoment, last_moment}
 use Rattle.mr_bytes.specs.Number.{is_i64, number_of}
-use Rattle.mr_bytes.proofs.Numbers.{first, second, number_of-signed_decimal, number_text, same_bytes}
+use Rattle.mr_bytes.proofs.Numbers.{number_of-signed_decimal, number_text, same_bytes}
+use Rattle.mr_bytes.proofs.Both.{first, second}
 use Rattle.mr_world_script.specs.Said.{Said, nothing, starts, joins, sends, delivers, steps, ticks, breaks, dials, connects, accepts, restarts, shows, gets, NamesId, Says, SaysSend, request, text}
 use Rattle.mr_world_script.specs.Words.{with, count_of, moment_if, moment_of, side_of, side_text, id_of}
 use Rattle.mr_world_script.specs.Reading.{text_of, names, is_named, named, given_of, start, client, send, raw, deliver, step, tick, «break», dial, connect, accept, restart, show, got, behind, said_by}

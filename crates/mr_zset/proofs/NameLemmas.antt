@@ -10,7 +10,7 @@ use Rattle.std.proofs.lemmas.Cmp.{nat_list_cmp_total}
 use Rattle.std.proofs.lemmas.Map.Lookups.{exact_bytes}
 use Rattle.mr_map.specs.Bytes.{bytes_cmp, ByteMap}
 use Rattle.mr_zset.specs.Few.{few, AreNamed, HasRoom}
-use Rattle.mr_zset.specs.Leaving.{without_all}
+use Rattle.mr_zset.specs.Leaving.{without_scores}
 use Rattle.mr_zset.specs.Pairs.{without}
 use Rattle.mr_zset.proofs.StoredLemmas.{same_key}
 
@@ -31,9 +31,9 @@ pub len_without : (p : Option (List ℕ × ℤ)) (m : ByteMap ℤ) → len (with
 len_without None m = omega arith
 len_without (Some p) m = len_removed m p.0
 
-pub len_without_all : (ks : List (List ℕ)) (m : ByteMap ℤ) → len (without_all ks m) ≤ len m
-len_without_all [] m = omega arith
-len_without_all (k ∷ ks) m = let rest = len_without_all ks (remove m k) in let one = len_removed m k in omega arith
+pub len_without_scores : (ks : List (List ℕ)) (m : ByteMap ℤ) → len (without_scores ks m) ≤ len m
+len_without_scores [] m = omega arith
+len_without_scores (k ∷ ks) m = let rest = len_without_scores ks (remove m k) in let one = len_removed m k in omega arith
 
 -- another score of a member that is there
 pub len_changed : (m : ByteMap ℤ) (k : List ℕ) (old z : ℤ) → get m k ≡ Some old → len (insert m k z) ≤ len m

@@ -5,7 +5,7 @@ use Rattle.std.specs.Global.{Box}
 use Rattle.mr_map.specs.Bytes.{ByteMap}
 use Rattle.mr_map.specs.Merged.{held}
 use Rattle.mr_map.proofs.Parted.{none_listed, none_removed}
-use Rattle.mr_zset.specs.Leaving.{without_all}
+use Rattle.mr_zset.specs.Leaving.{without_scores}
 use Rattle.mr_zset.specs.Order.{in_order}
 use Rattle.mr_zset.specs.Pairs.{pair_cmp, pairs_of}
 
@@ -25,6 +25,6 @@ pub no_pairs : (t : Option (Box (ByteMap ℤ))) (m : ByteMap ℤ) → held t ≡
 no_pairs t m is none = ap (in_order pair_cmp) (none_listed t m is none)
 
 -- none goes
-pub none_out : (t : Option (Box (ByteMap ℤ))) (m : ByteMap ℤ) → held t ≡ m → t ≡ None → (ks : List (List ℕ)) → m ≡ without_all ks m
+pub none_out : (t : Option (Box (ByteMap ℤ))) (m : ByteMap ℤ) → held t ≡ m → t ≡ None → (ks : List (List ℕ)) → m ≡ without_scores ks m
 none_out t m is none [] = refl
-none_out t m is none (k ∷ ks) = none_out t m is none ks ∙ ap (without_all ks) (none_removed t m is none k)
+none_out t m is none (k ∷ ks) = none_out t m is none ks ∙ ap (without_scores ks) (none_removed t m is none k)

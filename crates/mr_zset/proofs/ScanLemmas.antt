@@ -1,5 +1,5 @@
 -- What a scan of pairs finds by the bytes of members, and that stored pairs are the map that they are of.
-use Rattle.std.proofs.Common.{◌≡◌, ℕ, zero, suc, ◌+◌, ◌-◌, ◌<◌, ◌≤◌, length, get_or, drop, map, List, [], ◌∷◌, Option, Some, None, Bool, true, false, ◌&&◌, not, cond, refl, sym, ◌∙◌, ap, subst, arith, drop-cons}
+use Rattle.std.proofs.Common.{◌≡◌, ℕ, zero, suc, ◌+◌, ◌-◌, ◌<◌, ◌≤◌, length, get_or, drop, map, List, [], ◌∷◌, Option, Some, None, true, false, ◌&&◌, not, cond, refl, sym, ◌∙◌, ap, subst, arith, drop-cons}
 use Rattle.std.specs.Prelude.{T, ℤ, option_map, slice_get, if◌then◌else◌}
 use Rattle.std.specs.Ordering.{is_gt, is_lt, eq_by_cmp, ordering_reverse}
 use Rattle.std.specs.declared.cmp.Ordering.{Ordering}
@@ -9,15 +9,17 @@ use Rattle.std.specs.FinMap.Entries.{below_all, by_order}
 use Rattle.std.proofs.Math.Seq.{drop-length}
 use Rattle.std.proofs.lemmas.Cmp.{nat_list_cmp_total, tied_itself}
 use Rattle.std.proofs.lemmas.Map.Lookups.{exact_bytes}
+use Rattle.std.proofs.Math.Bool.{and-false}
 use Rattle.mr_map.specs.Bytes.{bytes_cmp, ByteMap}
 use Rattle.mr_map.proofs.Parted.{none_listed}
+use Rattle.mr_map.proofs.Conditions.{both_hold}
 use Rattle.mr_zset.specs.declared.entry.Entry.{Entry}
 use Rattle.mr_zset.specs.Few.{behind, is_behind, is_in_front, nearer}
 use Rattle.mr_zset.specs.Pairs.{pair_cmp, pairs_of}
 use Rattle.mr_zset.specs.Stored.{scores_of, stored, AreStored}
 use Rattle.mr_zset.proofs.Orders.{times, times-cons, times-nil}
 use Rattle.mr_zset.proofs.PairLemmas.{found, some_inj}
-use Rattle.mr_zset.proofs.StoredLemmas.{drop_false, left, pair_of_map, right, stands_there, tie, tie_elsewhere}
+use Rattle.mr_zset.proofs.StoredLemmas.{left, pair_of_map, right, stands_there, tie, tie_elsewhere}
 
 abbrev P : Type 0
 P = List ℕ × ℤ
@@ -65,10 +67,6 @@ less_of Greater t = absurd t
 is_less : (r : Ordering) → is_lt r ≡ true → r ≡ Less
 is_less r e = less_of r (subst T (sym e) tt)
 
-both : (a b : Bool) → T a → T b → T (a && b)
-both true b p q = q
-both false b p q = p
-
 first_of_all : (k : List ℕ) (p : P) (ps : List P) → T (below_all bytes_cmp k (p ∷ ps)) → bytes_cmp k p.0 ≡ Less
 first_of_all k p ps h = less_of (bytes_cmp k p.0) (left (is_lt (bytes_cmp k p.0)) (below_all bytes_cmp k ps) h)
 
@@ -76,7 +74,7 @@ others_of_all : (k : List ℕ) (p : P) (ps : List P) → T (below_all bytes_cmp 
 others_of_all k p ps h = right (is_lt (bytes_cmp k p.0)) (below_all bytes_cmp k ps) h
 
 more_below : (k : List ℕ) (p : P) (ps : List P) → bytes_cmp k p.0 ≡ Less → T (below_all bytes_cmp k ps) → T (below_all bytes_cmp k (p ∷ ps))
-more_below k p ps e h = both (is_lt (bytes_cmp k p.0)) (below_all bytes_cmp k ps) (subst (λ r. T (is_lt r)) (sym e) tt) h
+more_below k p ps e h = both_hold (is_lt (bytes_cmp k p.0)) (below_all bytes_cmp k ps) (subst (λ r. T (is_lt r)) (sym e) tt) h
 
 -- what is below one that is below all is below all
 below : (a k : List ℕ) (ps : List P) → bytes_cmp a k ≡ Less → T (below_all bytes_cmp k ps) → T (below_all bytes_cmp a ps)
@@ -166,7 +164,7 @@ module _ (last : Option (List ℕ)) where
       after k z p ps e rest =
           let others : List P = behind last (put bytes_cmp k z ps) in
           elim (is_behind last p.0) as (λ b. slice_get (cond b (p ∷ others) others) 0 ≡ nearer last (k, z) (slice_get (cond b (p ∷ behind last ps) (behind last ps)) 0)) [
-            | true ↦ sym (ap (λ c. if c then Some (k, z) else Some p) (ap (λ r. is_behind last k && not (is_gt r)) e ∙ drop_false (is_behind last k)))
+            | true ↦ sym (ap (λ c. if c then Some (k, z) else Some p) (ap (λ r. is_behind last k && not (is_gt r)) e ∙ and-false (is_behind last k)))
             | false ↦ rest
           ]
 

@@ -13,6 +13,8 @@ use Rattle.std.proofs.lemmas.Cmp.{nat_list_cmp_total, int_cmp_total, tied_itself
 use Rattle.std.proofs.lemmas.Map.Lookups.{exact_bytes}
 use Rattle.std.proofs.lemmas.List.{length-map, map_push, take-map, drop-map}
 use Rattle.std.proofs.lemmas.List.Sums.{length-filter}
+use Rattle.std.proofs.Math.Bool.{and-false, and-true}
+use Rattle.mr_value.proofs.SetLemmas.{tied}
 use Rattle.mr_map.specs.Bytes.{bytes_cmp, ByteMap}
 use Rattle.mr_zset.specs.declared.bound.Bound.{Bound}
 use Rattle.mr_zset.specs.declared.entry.Entry.{Entry}
@@ -38,31 +40,18 @@ holds z (Some s) = one (int_eq z s)
 abbrev pub tie : List ℕ × ℤ → List ℕ × ℤ → ℕ
 tie q p = one (is_eq (pair_cmp q p))
 
-tied : (r : Ordering) → is_eq r ≡ true → r ≡ Equal
-tied Less e = cc
-tied Equal e = refl
-tied Greater e = cc
-
 pub same_key : (q k : List ℕ) → eq_by_cmp bytes_cmp q k ≡ true → q ≡ k
 same_key q k e = exact_bytes q k (tied _ e)
-
-keep_true : (a : Bool) → (a && true) ≡ a
-keep_true true = refl
-keep_true false = refl
-
-pub drop_false : (a : Bool) → (a && false) ≡ false
-drop_false true = refl
-drop_false false = refl
 
 ties : (q p : List ℕ × ℤ) → is_eq (pair_cmp q p) ≡ (int_eq q.1 p.1 && eq_by_cmp bytes_cmp q.0 p.0)
 ties q p = sym (tied_then _ _)
 
 -- of one member, and of two
 tie_here : (q p : List ℕ × ℤ) → eq_by_cmp bytes_cmp q.0 p.0 ≡ true → tie q p ≡ one (int_eq q.1 p.1)
-tie_here q p e = ap one (ties q p ∙ ap (λ b. int_eq q.1 p.1 && b) e ∙ keep_true (int_eq q.1 p.1))
+tie_here q p e = ap one (ties q p ∙ ap (λ b. int_eq q.1 p.1 && b) e ∙ and-true (int_eq q.1 p.1))
 
 pub tie_elsewhere : (q p : List ℕ × ℤ) → eq_by_cmp bytes_cmp q.0 p.0 ≡ false → tie q p ≡ 0
-tie_elsewhere q p e = one-false _ (ties q p ∙ ap (λ b. int_eq q.1 p.1 && b) e ∙ drop_false (int_eq q.1 p.1))
+tie_elsewhere q p e = one-false _ (ties q p ∙ ap (λ b. int_eq q.1 p.1 && b) e ∙ and-false (int_eq q.1 p.1))
 
 tie_itself : (p : List ℕ × ℤ) → tie p p ≡ 1
 tie_itself p = one-true _ (ap is_eq (tied_itself pairs_total p))

@@ -16,9 +16,9 @@ abbrev pub texts : List (Bor (List ℕ)) → List (List ℕ)
 texts members = map (λ (m : Bor (List ℕ)). m.now) members
 
 -- a set once these members are out of it
-abbrev pub without_all : List (List ℕ) → ByteMap ℤ → ByteMap ℤ
-without_all [] m = m
-without_all (k ∷ ks) m = without_all ks (remove m k)
+abbrev pub without_scores : List (List ℕ) → ByteMap ℤ → ByteMap ℤ
+without_scores [] m = m
+without_scores (k ∷ ks) m = without_scores ks (remove m k)
 
 -- pairs once these are out of them
 abbrev pub without_pairs : List (List ℕ × ℤ) → List (List ℕ × ℤ) → List (List ℕ × ℤ)

@@ -3,7 +3,7 @@ ghost use Rattle.std.specs.Prelude.{◌≡◌, ◌+◌, ◌-◌, ◌<◌, ◌≤
 ghost use Rattle.std.specs.FinMap as finite;
 ghost use Rattle.std.specs.Ordering.{int_eq};
 ghost use Rattle.mr_score.specs.Score.{is_score};
-ghost use Rattle.mr_zset.specs.Leaving.{texts, without_all};
+ghost use Rattle.mr_zset.specs.Leaving.{texts, without_scores};
 ghost use Rattle.mr_zset.specs.Pairs.{pair_lt, pairs_of, range_of, shown, without};
 
 use crate::bound::Bound;
@@ -165,7 +165,7 @@ impl ByScore {
 
     /// Takes out members, where they are there, each found by a scan. It takes no memory.
     pub(crate) fn take_each(&mut self, members: &[&[u8]])
-        ensures { self.new ≡ without_all (texts members.now) self.old }
+        ensures { self.new ≡ without_scores (texts members.now) self.old }
     {
         for member in members {
             self.take_member(member);
@@ -176,7 +176,7 @@ impl ByScore {
     /// pairs that stand side by side in order go at once.
     pub(crate) fn take_all(&mut self, names: &mut ByName<i64>, members: &[&[u8]])
         requires { names.old ≡ self.old }
-        ensures taken { self.new ≡ without_all (texts members.now) self.old }
+        ensures taken { self.new ≡ without_scores (texts members.now) self.old }
         ensures names { names.new ≡ self.new }
     {
         let gone = forget_all(self.alloc, names, &mut self.pairs, members);

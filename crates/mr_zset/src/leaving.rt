@@ -4,7 +4,7 @@ ghost use Rattle.std.specs.Ordering.{is_gt};
 ghost use Rattle.std.specs.FinMap as finite;
 ghost use Rattle.std.specs.List.{AllWithin};
 ghost use Rattle.std.specs.declared.cmp.Ordering.TheVariants.{Less};
-ghost use Rattle.mr_zset.specs.Leaving.{texts, without_all, without_pairs, AreBetween, AreStoredBesides, HaveRange};
+ghost use Rattle.mr_zset.specs.Leaving.{texts, without_scores, without_pairs, AreBetween, AreStoredBesides, HaveRange};
 ghost use Rattle.mr_zset.specs.Pairs.{is_other, pair_cmp, shown};
 ghost use Rattle.mr_zset.specs.Stored.{stored, AreStored};
 
@@ -23,7 +23,7 @@ pub(crate) fn forget_all<'m>(
     members: &[&'m [u8]],
 ) -> Vec<Pair<'m>>
     requires { AreStored scores.old pairs.old }
-    ensures scores { scores.new ≡ without_all (texts members.now) scores.old }
+    ensures scores { scores.new ≡ without_scores (texts members.now) scores.old }
     ensures left { AreStoredBesides result.items scores.new pairs.new }
 {
     let mut gone = Vec::new(alloc);

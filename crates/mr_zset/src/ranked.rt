@@ -2,7 +2,7 @@
 ghost use Rattle.std.specs.Prelude.{◌≡◌, ◌-◌, IsTrue, OnOk, OnErr, IfOk, IfSome, Some, None, length, slice_get};
 ghost use Rattle.std.specs.FinMap as finite;
 ghost use Rattle.mr_score.specs.Score.{is_score};
-ghost use Rattle.mr_zset.specs.Leaving.{texts, without_all};
+ghost use Rattle.mr_zset.specs.Leaving.{texts, without_scores};
 ghost use Rattle.mr_zset.specs.Pairs.{pairs_of, without};
 
 use crate::by_score::ByScore;
@@ -137,7 +137,7 @@ impl Ranked {
 
     /// Removes members, where they are there. It takes memory, but needs none.
     pub(crate) fn remove_all(&mut self, members: &[&[u8]])
-        ensures { self.new ≡ without_all (texts members.now) self.old }
+        ensures { self.new ≡ without_scores (texts members.now) self.old }
     {
         if let Some(names) = &mut self.names {
             self.scores.take_all(names, members);

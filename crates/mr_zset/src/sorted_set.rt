@@ -2,7 +2,7 @@
 ghost use Rattle.std.specs.Prelude.{◌≡◌, ◌==◌, ◌+◌, ◌-◌, ◌<◌, ◌≤◌, ◌^◌, ℕ, IsTrue, OnOk, OnErr, IfOk, IfSome, count_by, length, map, option_map, slice_get, slice_range};
 ghost use Rattle.std.specs.FinMap as finite;
 ghost use Rattle.mr_score.specs.Score.{is_score};
-ghost use Rattle.mr_zset.specs.Leaving.{texts, without_all};
+ghost use Rattle.mr_zset.specs.Leaving.{texts, without_scores};
 ghost use Rattle.mr_zset.specs.Pairs.{pair_lt, pairs_of, rank_of, range_of, shown, without};
 
 use crate::bound::Bound;
@@ -116,7 +116,7 @@ impl ZSet {
     /// Removes members, where they are there. It takes memory, but needs none: with it, pairs that stand side by side in order go
     /// at once.
     pub fn remove_all(&mut self, members: &[&[u8]])
-        ensures { self.new ≡ without_all (texts members.now) self.old }
+        ensures { self.new ≡ without_scores (texts members.now) self.old }
     {
         if let Some(ranked) = &mut self.ranked {
             ranked.remove_all(members);

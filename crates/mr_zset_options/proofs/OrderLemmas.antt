@@ -1,11 +1,9 @@
 -- Options that stand side by side may change places.
 use Rattle.std.proofs.Common.{ℕ, ◌≡◌, List, [], ◌∷◌, ◌++◌, Option, Some, None, refl, sym, ap}
-use Rattle.std.specs.Prelude.{Result, Ok, Err}
 use Rattle.std.specs.Option.{is_some, ok_or}
 use Rattle.mr_arguments.specs.Options.{added}
 use Rattle.mr_arguments.specs.Parts.{with}
-use Rattle.mr_arguments.proofs.OrderLemmas.{exchanged, OnlySyntax, words_alike, two_alike, twice_refused, unless, only_found}
-use Rattle.mr_arguments.specs.declared.fault.AskFault.{AskFault}
+use Rattle.mr_arguments.proofs.OrderLemmas.{exchanged, OnlySyntax, words_alike, two_alike, twice_refused, unless, only_found, only_with}
 use Rattle.mr_arguments.specs.declared.fault.AskFault.TheVariants.{Syntax}
 use Rattle.mr_zset_options.specs.AddOptions.{add_also, add_option, add_options, add_word, agreeing, changed_also, disagree, no_add_options}
 use Rattle.mr_zset_options.specs.declared.add_options.AddOption.{AddOption}
@@ -60,11 +58,6 @@ pub add_in_any_order : (front back : List (List ℕ)) (v w : List ℕ) → add_o
 add_in_any_order front back v w = ap (λ r. with r agreeing) (exchanged add_word add_words_alike front back v w no_add_options)
 
 -- ---- no other fault
-only_with : {A B : Type 0} (r : Result A AskFault) (next : A → Result B AskFault) → OnlySyntax r → ((a : A) → OnlySyntax (next a)) → OnlySyntax (with r next)
-unfolding OnlySyntax
-only_with (Ok a) next h k = k a
-only_with (Err f) next h k = h
-
 all_only : (ws : List (List ℕ)) (s : AddOptions) → OnlySyntax (added add_word s ws)
 unfolding OnlySyntax
 all_only [] s = tt

@@ -3,11 +3,12 @@ use Rattle.std.proofs.Common.{ℕ, ◌≡◌, List, [], ◌∷◌, map, Some, No
 use Rattle.std.specs.Prelude.{IsTrue}
 use Rattle.std.specs.List.{list_all}
 use Rattle.std.specs.Option.{is_some}
+use Rattle.mr_bytes.proofs.Both.{first, second}
 use Rattle.mr_score.specs.Score.{is_score}
 use Rattle.mr_score.specs.Texts.{score_of}
 use Rattle.mr_score.proofs.TextLemmas.{read_spelled}
 use Rattle.mr_zset_options.specs.Scored.{have_scores, or_0, scored, is_scored}
-use Rattle.mr_arguments.proofs.FitLemmas.{first, second, both}
+use Rattle.mr_arguments.proofs.FitLemmas.{both}
 
 -- what is read is a score
 or_0_is : (text : List ℕ) → IsTrue (is_some (score_of text)) → IsTrue (is_score (or_0 (score_of text)))

@@ -2,10 +2,11 @@ use Rattle.std.proofs.Common.{◌≡◌, ◌∙◌, ap, sym, true, false}
 use Rattle.std.specs.Prelude.{option_copied}
 use Rattle.std.specs.FinMap.{get}
 use Rattle.std.specs.Str.{bytes_eq}
+use Rattle.mr_bytes.proofs.Numbers.{same_bytes}
 use Rattle.mr_map.specs.Bytes.{Bytes}
 use Rattle.mr_data.specs.Dataset.{live}
 use Rattle.mr_cmd_shared.proofs.PlanLemmas.{if_ok}
-use Rattle.mr_cmd_set.proofs.Moves.{move_plans, looked_one, looked_two, same_bytes}
+use Rattle.mr_cmd_set.proofs.Moves.{move_plans, looked_one, looked_two}
 use Rattle.mr_cmd_set.proofs.planning.smove.Goals as goal
 use Rattle.mr_cmd_set.proofs.planning.smove.Goals.{then-same, else-same+in_ok-target}
 

@@ -3,11 +3,12 @@ use Rattle.std.specs.Prelude.{◌+ℤ◌, codes, is_some}
 use Rattle.std.specs.Ordering.{int_eq}
 use Rattle.std.proofs.lemmas.Int.{to_z-of_z}
 use Rattle.mr_bytes.specs.Number.{number_of}
+use Rattle.mr_bytes.proofs.Numbers.{is_i64-fits}
 use Rattle.mr_resp.specs.Replies as reply
 use Rattle.mr_resp.specs.ReplyView.{view}
 use Rattle.mr_effect.specs.declared.effect.Effect.TheVariants as effect
-use Rattle.mr_keyspace.specs.Steps.{texts as strings, held}
-use Rattle.mr_cmd_string.proofs.WritingOver.{increased, is_i64-fits}
+use Rattle.mr_keyspace.specs.Steps.{strings, held}
+use Rattle.mr_cmd_string.proofs.WritingOver.{increased}
 use Rattle.mr_cmd_string.proofs.changing.increase.Goals as goal
 
 pub returns : goal.returns

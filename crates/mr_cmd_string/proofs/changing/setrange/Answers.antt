@@ -7,7 +7,7 @@ use Rattle.mr_resp.specs.ReplyView.{view}
 use Rattle.mr_bytes.specs.Words.{fits}
 use Rattle.mr_bytes.specs.Texts.{overwritten}
 use Rattle.mr_effect.specs.declared.effect.Effect.TheVariants as effect
-use Rattle.mr_keyspace.specs.Steps.{texts as strings, held}
+use Rattle.mr_keyspace.specs.Steps.{strings, held}
 use Rattle.mr_cmd_string.proofs.WritingOver.{small_end, written_before, written_over}
 use Rattle.mr_cmd_string.proofs.changing.setrange.Goals as goal
 

@@ -1,7 +1,8 @@
 use Rattle.std.proofs.Common.{◌≡◌, ◌∙◌, ◌++◌, ap, sym, rules}
 use Rattle.std.specs.FinMap.{entries}
+use Rattle.mr_keyspace.specs.Collections.{last_values}
 use Rattle.mr_cmd_shared.specs.Keys.{dels, expired}
-use Rattle.mr_cmd_string.specs.SettingAll.{names, last_texts, set_effects}
+use Rattle.mr_cmd_string.specs.SettingAll.{names, set_effects}
 use Rattle.mr_cmd_string.proofs.SettingAllPlans.{some_there, none_there, none_of_pairs}
 use Rattle.mr_cmd_string.proofs.setting_all.msetnx.Goals as goal
 use Rattle.mr_cmd_string.proofs.setting_all.msetnx.Goals.{then-expired+in_ok-push_expired, else-expired}
@@ -26,5 +27,5 @@ returns c =
       | then-expired+in_ok-push_expired w ↦ w.effects-is ∙ w.in_ok-push_expired.ensures
       | else-expired w ↦ w.effects-is ∙ none_of_pairs now m ps _ (sym c.find_any-there.ensures.expired ∙ w.if-expired.false)
     ] in
-    let texts : c.in_ok-texts.texts ≡ entries (last_texts ps) = search rules in
+    let texts : c.in_ok-texts.texts ≡ entries (last_values ps) = search rules in
     none_there ps now m _ _ _ looked _ (sym c.find_any-there.ensures.there ∙ c.if-there.false) c.count-2.ensures (c.in_ok-push_texts.ensures ∙ ap (λ xs. c.if-expired.effects ++ set_effects xs) texts)

@@ -2,7 +2,7 @@ use Rattle.std.proofs.Common.{◌≡◌, ◌∙◌, ap, map, ◌++◌}
 use Rattle.mr_map.specs.Bytes.{Bytes}
 use Rattle.mr_effect.specs.declared.effect.Effect.TheVariants as made
 use Rattle.mr_keyspace.specs.Cuts.{cut}
-use Rattle.mr_cmd_zset.proofs.GroupLemmas.{alone}
+use Rattle.mr_cmd_shared.proofs.GroupLemmas.{alone}
 use Rattle.mr_cmd_zset.proofs.grouping.push_changed_alone.Goals as goal
 
 pub returns : goal.returns

@@ -5,7 +5,7 @@ use Rattle.std.specs.FinMap.{keys}
 use Rattle.mr_map.specs.Bytes.{Bytes}
 use Rattle.mr_effect.specs.declared.effect.Effect.TheVariants as made
 use Rattle.mr_keyspace.specs.Cuts.{cut}
-use Rattle.mr_cmd_shared.specs.Taken.{texts}
+use Rattle.mr_cmd_shared.specs.Taken.{lent}
 use Rattle.mr_zset.specs.Pairs.{shown}
 use Rattle.mr_cmd_zset.specs.Removing.{members_of, as_set}
 use Rattle.mr_cmd_zset.proofs.Removals.{one_pair, one_key, one_member, len_keys}
@@ -29,5 +29,5 @@ returns-clause-removed c =
 pub returns-clause-effects : goal.returns-clause-effects
 returns-clause-effects c =
     c.in_ok-push_lost.ensures
-    ∙ ap (λ (ms : List (Bor Bytes)). c.args.effects.now ++ map (made.RemoveScores c.args.key.now) (cut (texts ms))) c.deref.ensures.value
+    ∙ ap (λ (ms : List (Bor Bytes)). c.args.effects.now ++ map (made.RemoveScores c.args.key.now) (cut (lent ms))) c.deref.ensures.value
     ∙ ap (λ (ms : List Bytes). c.args.effects.now ++ map (made.RemoveScores c.args.key.now) (cut ms)) c.in_ok-lost.ensures

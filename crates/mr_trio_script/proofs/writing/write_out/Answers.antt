@@ -1,5 +1,5 @@
 use Rattle.std.proofs.Common.{arith, ◌-◌, length, drop, length-drop, length-take}
-use Rattle.mr_trio_script.proofs.Written.{some_more}
+use Rattle.mr_file.proofs.Written.{some_more}
 use Rattle.mr_trio_script.proofs.writing.write_out.Goals as goal
 
 pub loop-write-preserved : goal.loop-write-preserved

@@ -1,13 +1,10 @@
-use Rattle.std.proofs.Common.{rules, ◌<◌, length, ◌≡◌, ◌∙◌, ◌++◌, sym, ap, true, Some, OnOk, Ok, Err, Result}
+use Rattle.std.proofs.Common.{rules, ◌<◌, length, ◌≡◌, ◌∙◌, ◌++◌, sym, ap, true, Some}
 use Rattle.std.specs.Prelude.{slice_get, slice_set, bytes_eq}
+use Rattle.mr_node.proofs.Results.{on_ok_map}
 use Rattle.law_refinement.specs.State.{BookEntry}
 use Rattle.mr_world_parts.proofs.Undone.{extended_here}
 use Rattle.mr_world_parts.proofs.Places.{stands}
 use Rattle.mr_world_parts.proofs.entry.lengthen.Goals as goal
-
-on_ok_map : {A E : Type 0} (r : Result A E) (P Q : Type 0) → OnOk r P → (P → Q) → OnOk r Q
-on_ok_map (Ok x) P Q h f = f h
-on_ok_map (Err x) P Q h f = h
 
 pub returns-then-is_of-clause-ok : goal.returns-then-is_of-clause-ok
 returns-then-is_of-clause-ok c = on_ok_map c.lengthen.result _ _ c.lengthen.ensures.ok (λ h.

@@ -1,5 +1,5 @@
 use Rattle.std.proofs.Common.{sym, ◌∙◌}
-use Rattle.mr_cmd_hash.proofs.GroupLemmas.{last_put}
+use Rattle.mr_cmd_shared.proofs.GroupLemmas.{last_put}
 use Rattle.mr_cmd_hash.proofs.groups.pairs.end_pairs.Goals as goal
 
 pub returns : goal.returns

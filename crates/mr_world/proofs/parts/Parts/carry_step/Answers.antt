@@ -5,8 +5,8 @@ use Rattle.law_refinement.specs.Carrying.{booked_as, filed}
 use Rattle.mr_world_parts.specs.Answering.{answered_links}
 use Rattle.mr_world_parts.specs.Memory.{TakesMemory}
 use Rattle.mr_world_parts.proofs.Places.{stands}
+use Rattle.mr_world_parts.proofs.Lacking.{where_err}
 use Rattle.mr_world.specs.Serving.{IsCarried}
-use Rattle.mr_world.proofs.Lacking.{where_err}
 use Rattle.mr_world.proofs.Servings.{carries_here, stops_here}
 use Rattle.mr_world.proofs.parts.Parts.carry_step.Goals as goal
 

@@ -3,7 +3,7 @@ use Rattle.std.specs.Prelude.{slice_set}
 use Rattle.law_refinement.specs.State.{WorldState}
 use Rattle.law_refinement.specs.Worlds.{IsWorld}
 use Rattle.mr_world_parts.specs.Answering.{IsServing}
-use Rattle.mr_world.specs.Serving.{IsCarried, NeedsMemory, Serves}
+use Rattle.mr_world.specs.Serving.{IsCarried, NeedsMemory, ServesLink}
 use Rattle.mr_world.proofs.Servings.{behind_there, carries_there, idles_there, lacks_there, never_absent, never_closed, never_full, spends_there}
 use Rattle.mr_world.proofs.parts.Parts.step_at.Goals as goal
 
@@ -46,7 +46,7 @@ returns-in-Ok-Done c =
     let serving : IsServing w c.args.l c.args.n c.args.name = subst (λ (z : WorldState). IsServing z c.args.l c.args.n c.args.name) (sym c.self.view_is) c.requires.serving in
     let carried : IsCarried (record w { slots = slice_set w.slots c.args.n c.step.new.self }) c.args.n c.args.l c.in-Some.id c.in-Some.offset c.in-Ok-Done.outs c.carry_step.new.self = search rules in (
       c.requires.unspent,
-      subst (λ (z : WorldState). Serves z c.args.l c.args.given c.args.fresh c.carry_step.new.self) c.self.view_is
+      subst (λ (z : WorldState). ServesLink z c.args.l c.args.given c.args.fresh c.carry_step.new.self) c.self.view_is
           (carries_there w c.args.l c.args.n c.args.name c.args.given c.args.fresh world serving c.index_mut.result.now c.index_mut.ensures.value c.step.new.self c.step.result c.step.ensures.row c.step.ensures.rest
           c.in-Ok-Done.outs (c.in-Ok-Done.is ∙ ap Ok c.in-Ok-Done.field-0-is) c.step.ensures.sound c.in-Some.id c.in-Some.offset c.index.result.now c.carry_step.new.self c.index.ensures (sym c.shows.ensures ∙ c.in-Some.is) carried.carries),
     )
@@ -57,7 +57,7 @@ returns-in-Ok-Idle c =
     let world : IsWorld w = subst (λ (z : WorldState). IsWorld z) (sym c.self.view_is) c.requires.world in
     let serving : IsServing w c.args.l c.args.n c.args.name = subst (λ (z : WorldState). IsServing z c.args.l c.args.n c.args.name) (sym c.self.view_is) c.requires.serving in (
       c.requires.unspent,
-      subst (λ (z : WorldState). Serves z c.args.l c.args.given c.args.fresh (record w { slots = slice_set w.slots c.args.n c.step.new.self })) c.self.view_is
+      subst (λ (z : WorldState). ServesLink z c.args.l c.args.given c.args.fresh (record w { slots = slice_set w.slots c.args.n c.step.new.self })) c.self.view_is
           (idles_there w c.args.l c.args.n c.args.name c.args.given c.args.fresh world serving c.index_mut.result.now c.index_mut.ensures.value c.step.new.self c.step.result c.step.ensures.row c.step.ensures.rest (c.in-Ok-Idle.is ∙ ap Ok c.in-Ok-Idle.field-0-is)),
     )
 
@@ -78,6 +78,6 @@ returns-in-Err-Stopped c =
     let world : IsWorld w = subst (λ (z : WorldState). IsWorld z) (sym c.self.view_is) c.requires.world in
     let serving : IsServing w c.args.l c.args.n c.args.name = subst (λ (z : WorldState). IsServing z c.args.l c.args.n c.args.name) (sym c.self.view_is) c.requires.serving in (
       c.requires.unspent,
-      subst (λ (z : WorldState). Serves z c.args.l c.args.given c.args.fresh (record w { slots = slice_set w.slots c.args.n c.step.new.self })) c.self.view_is
+      subst (λ (z : WorldState). ServesLink z c.args.l c.args.given c.args.fresh (record w { slots = slice_set w.slots c.args.n c.step.new.self })) c.self.view_is
           (spends_there w c.args.l c.args.n c.args.name c.args.given c.args.fresh world serving c.index_mut.result.now c.index_mut.ensures.value c.step.new.self c.step.result c.step.ensures.row c.step.ensures.rest (c.in-Err-Stopped.is ∙ ap Err c.in-Err-Stopped.field-0-is)),
     )

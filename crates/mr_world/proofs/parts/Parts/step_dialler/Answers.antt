@@ -7,11 +7,11 @@ use Rattle.law_refinement.specs.Carrying.{filed}
 use Rattle.mr_world_parts.specs.AtNode.{is_spent}
 use Rattle.mr_world_parts.specs.AtLink.{heard_by}
 use Rattle.mr_world_parts.specs.Memory.{TakesMemory}
+use Rattle.mr_world_parts.proofs.Lacking.{where_err}
 use Rattle.mr_world.specs.Following.{Follows, HasLacked, IsFollower}
 use Rattle.mr_world.specs.Linking.{IsDialler}
 use Rattle.mr_world.proofs.Dialling.{rests_here, slot_within}
 use Rattle.mr_world.proofs.Heard.{carried, comes_to, failed, follower_here, lacks_here, spends_here, waits_here}
-use Rattle.mr_world.proofs.Lacking.{where_err}
 use Rattle.mr_world.proofs.Joins.{put_same}
 use Rattle.mr_world.proofs.parts.Parts.step_dialler.Goals as goal
 

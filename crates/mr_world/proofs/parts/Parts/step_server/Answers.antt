@@ -3,7 +3,7 @@ use Rattle.law_refinement.specs.State.{WorldState}
 use Rattle.law_refinement.specs.Worlds.{IsWorld}
 use Rattle.mr_world_parts.specs.AtNode.{is_spent}
 use Rattle.mr_world_parts.specs.Answering.{IsServing}
-use Rattle.mr_world.specs.Serving.{Serves}
+use Rattle.mr_world.specs.Serving.{ServesLink}
 use Rattle.mr_world.proofs.Joins.{server_there}
 use Rattle.mr_world.proofs.Servings.{rests_there, serving_there}
 use Rattle.mr_world.proofs.parts.Parts.step_server.Goals as goal
@@ -22,7 +22,7 @@ returns-then-not-is_up c =
     let there : c.to-to.result < length c.self.inside.slots.items = server_there w c.args.l c.to-to.result c.index-link.result.now within c.index-link.ensures c.to-to.ensures (subst (λ (z : WorldState). IsWorld z) (sym c.self.view_is) c.requires) in
     let open_now : c.index-link.result.now.serving ≡ true = sym c.serving.ensures ∙ c.if-not-serving.false in
     let unspent : is_spent c.self.inside.book.items c.args.fresh ≡ false = search rules in
-    subst (λ (z : WorldState). (is_spent z.book c.args.fresh ≡ false) × Serves z c.args.l c.args.given c.args.fresh z) c.self.view_is
+    subst (λ (z : WorldState). (is_spent z.book c.args.fresh ≡ false) × ServesLink z c.args.l c.args.given c.args.fresh z) c.self.view_is
     (unspent, rests_there w c.args.l c.to-to.result c.index-link.result.now within c.index-link.ensures c.to-to.ensures open_now c.index.result.now there c.index.ensures c.args.given c.args.fresh (sym c.is_up.ensures ∙ c.if-not-is_up.true))
 
 pub step_at-requires-clause-serving : goal.step_at-requires-clause-serving

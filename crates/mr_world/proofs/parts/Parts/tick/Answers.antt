@@ -4,8 +4,7 @@ use Rattle.law_refinement.specs.State.{Slot, WorldState}
 use Rattle.law_refinement.specs.Carrying.{booked_as, filed, reached, said_on}
 use Rattle.mr_node.specs.Calls.{TickStep}
 use Rattle.mr_world_parts.specs.Memory.{TakesMemory}
-use Rattle.mr_world.specs.Calls.{Runs}
-use Rattle.mr_world.specs.Stepping.{Ticks}
+use Rattle.mr_world.specs.Stepping.{NeedsTick, Ticks}
 use Rattle.mr_world.proofs.Joins.{read_twice}
 use Rattle.mr_world.proofs.Ticking.{carried, failed, rests_shown, shown_id, shown_offset, tick_lacks}
 use Rattle.mr_world.proofs.parts.Parts.tick.Goals as goal
@@ -50,5 +49,5 @@ returns-in-Err-Memory c =
     let w : WorldState = record { slots = c.self.inside.slots.items; links = c.self.inside.links.items; book = c.self.inside.book.items } in
     let within : c.args.n < length c.self.inside.slots.items = search rules in
     let row = subst (λ r. TickStep c.index_mut.result.now.node c.args.given.now c.tick.new.self.node r) (c.in-Err-Memory.is ∙ ap Err c.in-Err-Memory.field-0-is) c.tick.ensures.row in
-    let lacks = tick_lacks w c.args.n c.args.given.now c.index_mut.result.now within c.index_mut.ensures.value c.tick.new.self c.tick.ensures.rest row.0 row.1 in
-    (subst (λ (z : WorldState). Runs z c.args.n) c.self.view_is lacks.0, lacks.1 ∙ c.self.view_is)
+    let lacks = tick_lacks w c.args.n c.args.given.now c.index_mut.result.now within c.index_mut.ensures.value c.tick.new.self c.tick.ensures.rest row.0 row.1 row.2 in
+    (subst (λ (z : WorldState). NeedsTick z c.args.n c.args.given.now) c.self.view_is lacks.0, lacks.1 ∙ c.self.view_is)

@@ -1,5 +1,5 @@
 use Rattle.std.proofs.Common.{map, length, sym, ap, ◌∙◌}
-use Rattle.mr_zset.specs.Leaving.{texts, without_all, without_pairs}
+use Rattle.mr_zset.specs.Leaving.{texts, without_scores, without_pairs}
 use Rattle.mr_zset.specs.Pairs.{shown}
 use Rattle.mr_zset.specs.Stored.{stored}
 use Rattle.mr_zset.proofs.LeavingLemmas.{besides_left, besides_stored}
@@ -23,7 +23,7 @@ returns-clause-taken c =
     let left = c.forget_all-gone.new.pairs in
     are_scores _ c.take_out_all.new.pairs (besides_stored c.forget_all-gone.result.items c.forget_all-gone.new.scores left c.forget_all-gone.ensures.left c.take_out_all.new.pairs
     (c.take_out_all.ensures ∙ ap (λ gone. without_pairs (map shown gone) (map stored left)) c.deref.ensures.value))
-    ∙ c.forget_all-gone.ensures.scores ∙ ap (without_all (texts c.args.members.now)) c.requires
+    ∙ c.forget_all-gone.ensures.scores ∙ ap (without_scores (texts c.args.members.now)) c.requires
 
 pub returns-clause-names : goal.returns-clause-names
 returns-clause-names c =

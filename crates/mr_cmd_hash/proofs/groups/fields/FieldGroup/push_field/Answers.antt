@@ -1,6 +1,6 @@
 use Rattle.std.proofs.Common.{rules, ◌≡◌, [], ◌∷◌, ◌++◌, length}
 use Rattle.mr_keyspace.specs.Cuts.{most_items}
-use Rattle.mr_cmd_hash.proofs.GroupLemmas.{takes_more, takes_first}
+use Rattle.mr_cmd_shared.proofs.GroupLemmas.{takes_more, takes_first}
 use Rattle.mr_cmd_hash.proofs.groups.fields.FieldGroup.push_field.Goals as goal
 use Rattle.mr_cmd_hash.proofs.groups.fields.FieldGroup.push_field.Goals.{then-len-eq-MOST_ITEMS+in_ok-flush, else-len-eq-MOST_ITEMS}
 

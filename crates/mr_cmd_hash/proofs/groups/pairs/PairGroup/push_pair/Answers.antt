@@ -1,6 +1,6 @@
 use Rattle.std.proofs.Common.{rules, ◌≡◌, [], ◌∷◌, ◌++◌, List, ℕ, length}
 use Rattle.mr_keyspace.specs.Cuts.{most_items}
-use Rattle.mr_cmd_hash.proofs.GroupLemmas.{takes_more, takes_first}
+use Rattle.mr_cmd_shared.proofs.GroupLemmas.{takes_more, takes_first}
 use Rattle.mr_cmd_hash.proofs.groups.pairs.PairGroup.push_pair.Goals as goal
 use Rattle.mr_cmd_hash.proofs.groups.pairs.PairGroup.push_pair.Goals.{then-len-eq-MOST_ITEMS+in_ok-flush, else-len-eq-MOST_ITEMS}
 

@@ -1,6 +1,6 @@
 use Rattle.std.proofs.Common.{rules, ◌≡◌, [], ◌∷◌, ◌++◌, List, ℕ, ℤ, length}
 use Rattle.mr_keyspace.specs.Cuts.{most_items}
-use Rattle.mr_cmd_zset.proofs.GroupLemmas.{takes_more, takes_first}
+use Rattle.mr_cmd_shared.proofs.GroupLemmas.{takes_more, takes_first}
 use Rattle.mr_cmd_zset.proofs.groups.scores.ScoreGroup.push_score.Goals as goal
 use Rattle.mr_cmd_zset.proofs.groups.scores.ScoreGroup.push_score.Goals.{then-len-eq-MOST_ITEMS+in_ok-flush, else-len-eq-MOST_ITEMS}
 

@@ -12,6 +12,10 @@ use Rattle.mr_cmd_shared.specs.Groups.{TakesItems}
 not_full : (n : ℕ) → n ≡ 0 → n ≡ most_items → ⊥
 not_full n a b = omega (arith, a, b)
 
+pub no_map : {A B : Type 0} (f : A → B) (xs : List A) → map f xs ≡ [] → xs ≡ []
+no_map f [] h = refl
+no_map f (x ∷ xs) h = cc
+
 module _ {X : Type 0} where
   -- a full group in front is the first of all
   cut_full : (g rest : List X) → length g ≡ most_items → cut (g ++ rest) ≡ g ∷ cut rest
