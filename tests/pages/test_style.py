@@ -13,14 +13,14 @@ from tests.support.program import ROOT
 FUNCTIONS, ROWS, BODY, COLUMNS = 100, 800, 39, 100
 EXCUSED = {
     "functions": {
-        "rehearse_values": 201,  # a program for tests: calls on each kind of value
+        "rehearse_values": 222,  # a program for tests: calls on each kind of value
         "mr_order": 153,  # one structure in levels, and its searches
         "rehearse_systems": 130,  # a program for tests: servers, the network between them, and a wire of their own
         "minired": 133,  # what a program does with what it is handed, of four kinds
         "mr_value": 118,  # lists, hashes, sets and their bytes: kinds of one value
         "mr_node": 115,  # each call on a node, by the one invariant below it
-        "mr_loop": 132,  # a turn, whose steps share one clause
-        "mr_keyspace": 111,  # what each effect makes of each kind of value, and the order of deadlines beside them
+        "mr_loop": 137,  # a turn, whose steps share one clause, and turns that are watched
+        "mr_keyspace": 124,  # what each effect makes of each kind of value, whether it can, and the order of deadlines beside them
     },
     "rows": {
         "crates/law_protocol_example/specs/Troubles.antt": 850,  # a run, moment by moment
