@@ -1,5 +1,6 @@
 """Effects on a dataset: what they leave, by reference and moved in, and what is refused. Their texts, and words that spell none."""
 
+import random
 import unittest
 
 from tests.support.rehearsal import Rehearsing, asked, effect, holding
@@ -161,6 +162,37 @@ class Effects(Rehearsing):
             ("HDEL k g", "EXISTS k", number(0)),
             ("HDEL k g", "EXISTS k", number(0)),
         ])
+
+    def test_hashes_are_the_same_when_they_grow(self):
+        """Up to 128 fields of 64 bytes with values of 64 are packed: what is past that has a place for each field from then on."""
+        for seed, most in enumerate((12, 127, 128, 129, 140)):
+            with self.subTest(most=most):
+                self.leaves(self.changes(random.Random(seed), most))
+
+    def changes(self, drawn, most):
+        """A hash grows to so many fields, a few come and go, and in the end a field or a value is too long. Behind each change all that it has."""
+        names = [("%03d" % n).ljust(64 if n % 40 == 0 else 3, "x") for n in range(most)]
+        drawn.shuffle(names)
+        held, rows = {}, []
+        for turn in range(60):
+            left = [name for name in names if name not in held]
+            if left and (turn < 20 or drawn.random() < 0.6):
+                line = self.put(held, left[: 40 if turn < 10 else 1], drawn.choice((1, 2, 63, 64)))
+            elif turn > 50:
+                line = self.put(held, [drawn.choice((names[0], "y" * 65))], drawn.choice((1, 65, 255, 256)))
+            elif drawn.random() < 0.5:
+                line = self.put(held, drawn.sample(names, 2), drawn.choice((1, 2, 63, 64)))
+            else:
+                gone = drawn.sample(sorted(held), drawn.choice((1, 2)))
+                line = " ".join(["HDEL k", *gone])
+                held = {name: value for name, value in held.items() if name not in gone}
+            rows.append((line, "HGETALL k", array(*(word for name in sorted(held) for word in (name, held[name])))))
+        return rows
+
+    def put(self, held, names, length):
+        """The effect that gives these fields a value of so many bytes."""
+        held.update((name, "v" * length) for name in names)
+        return " ".join(["HSET k", *(word for name in names for word in (name, held[name]))])
 
     def test_pushes_and_pops(self):
         self.leaves([

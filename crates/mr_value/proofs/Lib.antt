@@ -5,3 +5,4 @@ pub mod Passing
 pub mod Backwards
 pub mod Uniform
 pub mod Written
+pub mod SortedPairs

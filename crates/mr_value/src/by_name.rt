@@ -6,7 +6,7 @@ ghost use Rattle.mr_order.specs.Changes.{IsFound, IsTaken};
 
 use crate::compact_bytes::CompactBytes;
 use crate::named::{Name, Named, ShortName};
-use crate::named_values::{NamedValues, Names};
+use crate::named_values::NamedValues;
 use mr_map::ShortKey;
 use mr_order::Ordered;
 use std::alloc::{AllocError, Global};
@@ -80,13 +80,6 @@ impl<V: Drop> ByName<V> {
         ensures { result ≡ map.contains_key self.now name.now }
     {
         self.get(name).is_some()
-    }
-
-    /// The names, in byte order. It takes no memory.
-    pub fn names(&self) -> Names<'_, V>
-        ensures { result ≡ map.keys self.now }
-    {
-        Names::new(self.iter())
     }
 
     /// The names with their values, in byte order. It takes no memory.

@@ -3,8 +3,11 @@
 
 mod by_name;
 mod compact_bytes;
+mod few_fields;
+mod field_values;
 mod hash;
 mod items;
+mod kept_fields;
 mod laws;
 mod list_value;
 mod matching;
@@ -17,10 +20,11 @@ mod set_value;
 
 pub use by_name::ByName;
 pub use compact_bytes::CompactBytes;
+pub use field_values::{FieldValues, Fields};
 pub use hash::Hash;
 pub use items::Items;
 pub use laws::{removals_mirrored, uniform_lists};
 pub use list_value::ListValue;
 pub use members::Members;
-pub use named_values::{NamedValues, Names};
+pub use named_values::NamedValues;
 pub use set_value::SetValue;

@@ -1,6 +1,6 @@
-// The names of a map, and its values under their names, in byte order.
+// The values of a map under their names, in byte order.
 ghost use Rattle.std.specs.Prelude.{◌≡◌, map};
-ghost use Rattle.std.specs.Iterator.{YieldsFirstBy, YieldsFirstRef, item_count};
+ghost use Rattle.std.specs.Iterator.{YieldsFirstBy, item_count};
 ghost use Rattle.mr_map.specs.Bytes.{deref_pair};
 ghost use Rattle.mr_value.specs.Named.{entry};
 
@@ -42,44 +42,6 @@ impl<'a, V: Drop> Iterator for NamedValues<'a, V> {
     fn next(&mut self) -> Option<(&'a [u8], &'a V)> {
         match self.inner.next() {
             Some(named) => Some((named.name.as_slice(), &named.value)),
-            None => None,
-        }
-    }
-}
-
-/// The names that are still to come, seen as a list.
-#[derive(Drop)]
-pub struct Names<'a, V: Drop> {
-    inner: NamedValues<'a, V>,
-}
-
-impl<'a, V: Drop> Model for Names<'a, V> {
-    ghost use Rattle.std.specs.Prelude.{ℕ, List, map};
-
-    ghost Value = { List (List ℕ) };
-
-    ghost view = { λ a. map (λ e. e.0) a.inner };
-}
-
-impl<'a, V: Drop> Names<'a, V> {
-    /// The names of what is still to come.
-    pub(crate) fn new(inner: NamedValues<'a, V>) -> Self
-        ensures { result ≡ map (λ e. e.0) inner.entry }
-    {
-        Names { inner }
-    }
-}
-
-impl<'a, V: Drop> Iterator for Names<'a, V> {
-    type Item = &'a [u8];
-
-    ghost next_gives = { YieldsFirstRef (λ s. s) };
-
-    ghost remaining = { item_count (λ s. s) };
-
-    fn next(&mut self) -> Option<&'a [u8]> {
-        match self.inner.next() {
-            Some((name, _)) => Some(name),
             None => None,
         }
     }
