@@ -121,7 +121,7 @@ fn push_hash<'d>(
 {
     let mut group = EffectPairs::new(alloc);
     for (field, value) in fields.iter() {
-        group.push(Word::borrowed(field), Word::borrowed(value.as_slice()))?;
+        group.push(Word::borrowed(field), Word::borrowed(value))?;
         if group.len() == MOST_ITEMS {
             push_fields(key, group, out)?;
             group = EffectPairs::new(alloc);

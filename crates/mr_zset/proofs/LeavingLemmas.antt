@@ -15,7 +15,7 @@ use Rattle.mr_map.specs.Bytes.{ByteMap}
 use Rattle.mr_zset.specs.declared.entry.Entry.{Entry}
 use Rattle.mr_zset.specs.declared.pair.Pair.{Pair}
 use Rattle.mr_zset.specs.Leaving.{without_pairs, AreBetween, AreStoredBesides, HaveRange, IsApart}
-use Rattle.mr_zset.specs.Pairs.{is_other, pair_cmp, shown}
+use Rattle.mr_zset.specs.Pairs.{is_other, pair_cmp, lent_pair}
 use Rattle.mr_zset.specs.Stored.{stored, AreStored}
 use Rattle.mr_zset.proofs.PairLemmas.{exact_pair, length-pairs_of, pairs_total, HasScores-remove}
 use Rattle.mr_zset.proofs.StoredChanges.{remove_absent}
@@ -61,31 +61,31 @@ filter_all p [] h = refl
 filter_all p (e ∷ es) h = filter_yes p (stored e) (map stored es) (h 0 e (omega arith)) ∙ ap (λ l. stored e ∷ l) (filter_all p es (λ k d lt. h (suc k) d (omega arith)))
 
 -- pairs that are others than those that go
-without_apart : (gone : List Pair) (es : List Entry) → ((k : ℕ) (d : Entry) → k < length es → IsApart gone (stored (get_or es k d))) → without_pairs (map shown gone) (map stored es) ≡ map stored es
+without_apart : (gone : List Pair) (es : List Entry) → ((k : ℕ) (d : Entry) → k < length es → IsApart gone (stored (get_or es k d))) → without_pairs (map lent_pair gone) (map stored es) ≡ map stored es
 without_apart [] es h = refl
 without_apart (g ∷ gone) es h =
-    ap (without_pairs (map shown gone)) (filter_all (is_other (shown g)) es (λ k d lt. h k d lt 0 g (omega arith)))
+    ap (without_pairs (map lent_pair gone)) (filter_all (is_other (lent_pair g)) es (λ k d lt. h k d lt 0 g (omega arith)))
     ∙ without_apart gone es (λ k d lt j f below. h k d lt (suc j) f (omega arith))
 
 -- ---- pairs that have a range of places
 
-module _ (gone : List Pair) (es : List Entry) (first past left : ℕ) (r : HaveRange gone es first past) (is : left ≡ length (without_pairs (map shown gone) (map stored es))) (all : length es - (past - first) ≡ left) where
-  front_stays : without_pairs (map shown gone) (map stored (take first es)) ≡ map stored (take first es)
+module _ (gone : List Pair) (es : List Entry) (first past left : ℕ) (r : HaveRange gone es first past) (is : left ≡ length (without_pairs (map lent_pair gone) (map stored es))) (all : length es - (past - first) ≡ left) where
+  front_stays : without_pairs (map lent_pair gone) (map stored (take first es)) ≡ map stored (take first es)
   front_stays =
       let ordered = r.ordered in
       let within = r.within in
       let long = length-take-le first es (omega arith) in
       without_apart gone (take first es) (λ k d lt. (let below : k < first = omega arith in subst (λ e. IsApart gone (stored e)) (sym (get_or-take first es k d below)) (r.front k d (omega arith) below)))
 
-  back_stays : without_pairs (map shown gone) (map stored (drop past es)) ≡ map stored (drop past es)
+  back_stays : without_pairs (map lent_pair gone) (map stored (drop past es)) ≡ map stored (drop past es)
   back_stays =
       let within = r.within in
       let long = length-drop past es in
       without_apart gone (drop past es) (λ k d lt. subst (λ e. IsApart gone (stored e)) (sym (get_or-drop past es k d)) (r.back (past + k) d (omega arith) (omega arith)))
 
-  pub range_goes : map stored (take first es ++ drop past es) ≡ without_pairs (map shown gone) (map stored es)
+  pub range_goes : map stored (take first es ++ drop past es) ≡ without_pairs (map lent_pair gone) (map stored es)
   range_goes =
-      let g : List P = map shown gone in
+      let g : List P = map lent_pair gone in
       let front : List Entry = take first es in
       let middle : List Entry = slice_range es first past in
       let back : List Entry = drop past es in
@@ -137,12 +137,12 @@ above_greatest greatest g y le less = elim (pair_cmp y g) as (λ r. pair_cmp y g
   | Greater ↦ λ e. refl
 ] refl
 
-pub have_range : (least greatest : Pair) (gone : List Pair) (es : List Entry) (first past : ℕ) → AreBetween least greatest gone (length gone) → first ≤ past → past ≤ length es → AllWithin (λ y. pair_cmp (shown least) (stored y) ≡ Greater) es 0 first → AllWithin (λ y. pair_cmp (shown greatest) (stored y) ≡ Less) es past (length es) → HaveRange gone es first past
+pub have_range : (least greatest : Pair) (gone : List Pair) (es : List Entry) (first past : ℕ) → AreBetween least greatest gone (length gone) → first ≤ past → past ≤ length es → AllWithin (λ y. pair_cmp (lent_pair least) (stored y) ≡ Greater) es 0 first → AllWithin (λ y. pair_cmp (lent_pair greatest) (stored y) ≡ Less) es past (length es) → HaveRange gone es first past
 have_range least greatest gone es first past b ordered within front back = record {
   ordered = ordered;
   within = within;
-  front = λ k d lo hi j f lt. below_least (shown least) (shown (get_or gone j f)) (stored (get_or es k d)) (b.low j f lt) (front k d lo hi);
-  back = λ k d lo hi j f lt. above_greatest (shown greatest) (shown (get_or gone j f)) (stored (get_or es k d)) (b.high j f lt) (back k d lo hi);
+  front = λ k d lo hi j f lt. below_least (lent_pair least) (lent_pair (get_or gone j f)) (stored (get_or es k d)) (b.low j f lt) (front k d lo hi);
+  back = λ k d lo hi j f lt. above_greatest (lent_pair greatest) (lent_pair (get_or gone j f)) (stored (get_or es k d)) (b.high j f lt) (back k d lo hi);
 }
 
 pub between_none : (least greatest : Pair) (ps : List Pair) → AreBetween least greatest ps 0
@@ -150,17 +150,17 @@ between_none least greatest ps = record { low = λ k d lt. absurd (omega arith);
 
 -- one pair more
 pub between_more : (least greatest low high x : Pair) (ps : List Pair) (i : ℕ) → AreBetween least greatest ps i → i < length ps → x ≡ get_or ps i x
-    → is_gt (pair_cmp (shown low) (shown least)) ≡ false → is_gt (pair_cmp (shown low) (shown x)) ≡ false → is_gt (pair_cmp (shown greatest) (shown high)) ≡ false → is_gt (pair_cmp (shown x) (shown high)) ≡ false
+    → is_gt (pair_cmp (lent_pair low) (lent_pair least)) ≡ false → is_gt (pair_cmp (lent_pair low) (lent_pair x)) ≡ false → is_gt (pair_cmp (lent_pair greatest) (lent_pair high)) ≡ false → is_gt (pair_cmp (lent_pair x) (lent_pair high)) ≡ false
     → AreBetween low high ps (i + 1)
 between_more least greatest low high x ps i b within is low_old low_new high_old high_new = record {
   low = λ k d lt. elim (cases_order k i) [
-    | inl same ↦ subst (λ n. is_gt (pair_cmp (shown low) (shown (get_or ps n d))) ≡ false) (sym same) (subst (λ y. is_gt (pair_cmp (shown low) (shown y)) ≡ false) (is ∙ get_or_default ps i x d within) low_new)
-    | inr (inl less) ↦ upto pairs_total (shown low) (shown least) (shown (get_or ps k d)) low_old (b.low k d less)
+    | inl same ↦ subst (λ n. is_gt (pair_cmp (lent_pair low) (lent_pair (get_or ps n d))) ≡ false) (sym same) (subst (λ y. is_gt (pair_cmp (lent_pair low) (lent_pair y)) ≡ false) (is ∙ get_or_default ps i x d within) low_new)
+    | inr (inl less) ↦ upto pairs_total (lent_pair low) (lent_pair least) (lent_pair (get_or ps k d)) low_old (b.low k d less)
     | inr (inr more) ↦ absurd (omega arith)
   ];
   high = λ k d lt. elim (cases_order k i) [
-    | inl same ↦ subst (λ n. is_gt (pair_cmp (shown (get_or ps n d)) (shown high)) ≡ false) (sym same) (subst (λ y. is_gt (pair_cmp (shown y) (shown high)) ≡ false) (is ∙ get_or_default ps i x d within) high_new)
-    | inr (inl less) ↦ upto pairs_total (shown (get_or ps k d)) (shown greatest) (shown high) (b.high k d less) high_old
+    | inl same ↦ subst (λ n. is_gt (pair_cmp (lent_pair (get_or ps n d)) (lent_pair high)) ≡ false) (sym same) (subst (λ y. is_gt (pair_cmp (lent_pair y) (lent_pair high)) ≡ false) (is ∙ get_or_default ps i x d within) high_new)
+    | inr (inl less) ↦ upto pairs_total (lent_pair (get_or ps k d)) (lent_pair greatest) (lent_pair high) (b.high k d less) high_old
     | inr (inr more) ↦ absurd (omega arith)
   ];
 }
@@ -171,7 +171,7 @@ pub besides_none : (scores : ByteMap ℤ) (pairs : List Entry) → AreStored sco
 besides_none scores pairs all = record { within = all.within; same = all.same }
 
 module _ (gone : List Pair) (m n : ByteMap ℤ) (es : List Entry) (all : AreStoredBesides gone m es) (k : List ℕ) (is : n ≡ remove m k) where
-  pub besides_taken : (z : ℤ) (more : List Pair) (fs : List Entry) → get m k ≡ Some z → without_pairs (map shown more) (map stored fs) ≡ filter (is_other (k, z)) (without_pairs (map shown gone) (map stored es)) → AreStoredBesides more n fs
+  pub besides_taken : (z : ℤ) (more : List Pair) (fs : List Entry) → get m k ≡ Some z → without_pairs (map lent_pair more) (map stored fs) ≡ filter (is_other (k, z)) (without_pairs (map lent_pair gone) (map stored es)) → AreStoredBesides more n fs
   besides_taken z more fs there out = subst (λ (x : ByteMap ℤ). AreStoredBesides more x fs) (sym is) (record {
     within = HasScores-remove m k all.within;
     same = out ∙ ap (filter (is_other (k, z))) all.same ∙ taken_out m k z there;
@@ -181,9 +181,9 @@ module _ (gone : List Pair) (m n : ByteMap ℤ) (es : List Entry) (all : AreStor
   besides_absent absent = subst (λ (x : ByteMap ℤ). AreStoredBesides gone x es) (sym (is ∙ remove_absent m k absent)) all
 
 module _ (gone : List Pair) (m : ByteMap ℤ) (es : List Entry) (all : AreStoredBesides gone m es) where
-  pub besides_stored : (fs : List Entry) → map stored fs ≡ without_pairs (map shown gone) (map stored es) → AreStored m fs
+  pub besides_stored : (fs : List Entry) → map stored fs ≡ without_pairs (map lent_pair gone) (map stored es) → AreStored m fs
   besides_stored fs is = record { within = all.within; same = is ∙ all.same }
 
   -- so many are left
-  pub besides_left : (left : ℕ) → left ≡ len m → left ≡ length (without_pairs (map shown gone) (map stored es))
+  pub besides_left : (left : ℕ) → left ≡ len m → left ≡ length (without_pairs (map lent_pair gone) (map stored es))
   besides_left left is = is ∙ sym (length-pairs_of m) ∙ ap length (sym all.same)

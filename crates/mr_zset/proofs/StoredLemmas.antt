@@ -23,7 +23,7 @@ use Rattle.mr_zset.specs.Bounds.{is_from, is_to, is_within}
 use Rattle.mr_zset.specs.Limits.{start_cmp, end_cmp}
 use Rattle.mr_zset.specs.Stored.{stored}
 use Rattle.mr_zset.specs.Order.{placed}
-use Rattle.mr_zset.specs.Pairs.{is_other, pair_cmp, pair_lt, pairs_of, shown}
+use Rattle.mr_zset.specs.Pairs.{is_other, pair_cmp, pair_lt, pairs_of, lent_pair}
 use Rattle.mr_zset.proofs.Orders.{Ascends, Ascends-filter, Ascends-in_order, Ascends-placed, IsPermutation-in_order, IsPermutation-placed, filtered_no, filtered_yes, one, one-false, one-true, one_order, times, times-cons, times-itself, times-nil, times-permutation}
 use Rattle.mr_zset.proofs.PairLemmas.{exact_pair, pairs_total}
 use Rattle.mr_zset.proofs.Cuts.{Ascends-front, between, length-slice_range, put_placed}
@@ -301,13 +301,13 @@ ranged f from to xs first past end lower upper e =
     ∙ (let same : past - first ≡ end - first = omega (arith, e) in ap (λ n. take n (drop first (map f xs))) same)
 
 -- a pair more in a list of pairs that are shown
-pub one_shown : (ps qs : List Pair) (p : Pair) (x : Entry) (now rest : List Entry) (all : Pairs) → map shown ps ++ map stored now ≡ all → now ≡ x ∷ rest → qs ≡ ps ++ p ∷ [] → shown p ≡ stored x → map shown qs ++ map stored rest ≡ all
+pub one_shown : (ps qs : List Pair) (p : Pair) (x : Entry) (now rest : List Entry) (all : Pairs) → map lent_pair ps ++ map stored now ≡ all → now ≡ x ∷ rest → qs ≡ ps ++ p ∷ [] → lent_pair p ≡ stored x → map lent_pair qs ++ map stored rest ≡ all
 one_shown ps qs p x now rest all before next pushed same =
-    ap (λ (zs : List Pair). map shown zs ++ map stored rest) pushed
-    ∙ ap (λ (zs : Pairs). zs ++ map stored rest) (map_push shown ps p)
-    ∙ append_assoc (map shown ps) (shown p ∷ []) (map stored rest)
-    ∙ ap (λ (z : List ℕ × ℤ). map shown ps ++ (z ∷ map stored rest)) same
-    ∙ ap (λ (zs : List Entry). map shown ps ++ map stored zs) (sym next)
+    ap (λ (zs : List Pair). map lent_pair zs ++ map stored rest) pushed
+    ∙ ap (λ (zs : Pairs). zs ++ map stored rest) (map_push lent_pair ps p)
+    ∙ append_assoc (map lent_pair ps) (lent_pair p ∷ []) (map stored rest)
+    ∙ ap (λ (z : List ℕ × ℤ). map lent_pair ps ++ (z ∷ map stored rest)) same
+    ∙ ap (λ (zs : List Entry). map lent_pair ps ++ map stored zs) (sym next)
     ∙ before
 
 pub slice_range-stored : (xs : List Entry) (a b : ℕ) → map stored (slice_range xs a b) ≡ slice_range (map stored xs) a b

@@ -7,13 +7,9 @@ use Rattle.std.specs.FinMap.{remove}
 use Rattle.mr_map.specs.Bytes.{ByteMap}
 use Rattle.mr_zset.specs.declared.entry.Entry.{Entry}
 use Rattle.mr_zset.specs.declared.pair.Pair.{Pair}
-use Rattle.mr_zset.specs.Pairs.{is_other, pair_cmp, pairs_of, shown}
+use Rattle.mr_zset.specs.Pairs.{is_other, pair_cmp, pairs_of, lent_pair}
 use Rattle.mr_zset.specs.Score.{HasScores}
 use Rattle.mr_zset.specs.Stored.{stored}
-
--- the bytes of each member
-abbrev pub texts : List (Bor (List ℕ)) → List (List ℕ)
-texts members = map (λ (m : Bor (List ℕ)). m.now) members
 
 -- a set once these members are out of it
 abbrev pub without_scores : List (List ℕ) → ByteMap ℤ → ByteMap ℤ
@@ -28,16 +24,16 @@ without_pairs (p ∷ gone) ps = without_pairs gone (filter (is_other p) ps)
 -- the stored pairs are those of the map, in order, once some of them are out
 pub record AreStoredBesides (gone : List Pair) (scores : ByteMap ℤ) (pairs : List Entry) : Type 0 where
   pub within : HasScores scores
-  pub same : without_pairs (map shown gone) (map stored pairs) ≡ pairs_of scores
+  pub same : without_pairs (map lent_pair gone) (map stored pairs) ≡ pairs_of scores
 
 -- none of the first pairs, so many, is less than one pair or greater than another
 pub record AreBetween (least greatest : Pair) (pairs : List Pair) (count : ℕ) : Type 0 where
-  pub low : (k : ℕ) (d : Pair) → k < count → is_gt (pair_cmp (shown least) (shown (slice_index_or pairs k d))) ≡ false
-  pub high : (k : ℕ) (d : Pair) → k < count → is_gt (pair_cmp (shown (slice_index_or pairs k d)) (shown greatest)) ≡ false
+  pub low : (k : ℕ) (d : Pair) → k < count → is_gt (pair_cmp (lent_pair least) (lent_pair (slice_index_or pairs k d))) ≡ false
+  pub high : (k : ℕ) (d : Pair) → k < count → is_gt (pair_cmp (lent_pair (slice_index_or pairs k d)) (lent_pair greatest)) ≡ false
 
 -- another pair than each of these
 abbrev pub IsApart : List Pair → List ℕ × ℤ → Type 0
-IsApart gone q = (k : ℕ) (d : Pair) → k < length gone → is_other (shown (slice_index_or gone k d)) q ≡ true
+IsApart gone q = (k : ℕ) (d : Pair) → k < length gone → is_other (lent_pair (slice_index_or gone k d)) q ≡ true
 
 -- those that are stored stand between two places
 pub record HaveRange (gone : List Pair) (pairs : List Entry) (first past : ℕ) : Type 0 where

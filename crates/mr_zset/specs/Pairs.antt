@@ -33,8 +33,8 @@ abbrev pub range_of : Bound → Bound → ByteMap ℤ → List (List ℕ × ℤ)
 range_of from to m = filter (λ p. is_within from to p.1) (pairs_of m)
 
 -- a pair as a member and its score
-abbrev pub shown : Pair → List ℕ × ℤ
-shown p = (p.member.now, p.score)
+abbrev pub lent_pair : Pair → List ℕ × ℤ
+lent_pair p = (p.member.now, p.score)
 
 -- the set once a pair is taken out
 abbrev pub without : Option (List ℕ × ℤ) → ByteMap ℤ → ByteMap ℤ

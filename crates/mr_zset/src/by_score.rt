@@ -2,9 +2,10 @@
 ghost use Rattle.std.specs.Prelude.{◌≡◌, ◌+◌, ◌-◌, ◌<◌, ◌≤◌, ◌^◌, ℕ, false, IsTrue, OnOk, OnErr, IfOk, IfSome, Some, None, count_by, length, map, option_map, slice_get, slice_range};
 ghost use Rattle.std.specs.FinMap as finite;
 ghost use Rattle.std.specs.Ordering.{int_eq};
+ghost use Rattle.mr_map.specs.Bytes.{lent};
 ghost use Rattle.mr_score.specs.Score.{is_score};
-ghost use Rattle.mr_zset.specs.Leaving.{texts, without_scores};
-ghost use Rattle.mr_zset.specs.Pairs.{pair_lt, pairs_of, range_of, shown, without};
+ghost use Rattle.mr_zset.specs.Leaving.{without_scores};
+ghost use Rattle.mr_zset.specs.Pairs.{pair_lt, pairs_of, range_of, lent_pair, without};
 
 use crate::bound::Bound;
 use crate::entry::Entry;
@@ -165,7 +166,7 @@ impl ByScore {
 
     /// Takes out members, where they are there, each found by a scan. It takes no memory.
     pub(crate) fn take_each(&mut self, members: &[&[u8]])
-        ensures { self.new ≡ without_scores (texts members.now) self.old }
+        ensures { self.new ≡ without_scores (lent members.now) self.old }
     {
         for member in members {
             self.take_member(member);
@@ -176,7 +177,7 @@ impl ByScore {
     /// pairs that stand side by side in order go at once.
     pub(crate) fn take_all(&mut self, names: &mut ByName<i64>, members: &[&[u8]])
         requires { names.old ≡ self.old }
-        ensures taken { self.new ≡ without_scores (texts members.now) self.old }
+        ensures taken { self.new ≡ without_scores (lent members.now) self.old }
         ensures names { names.new ≡ self.new }
     {
         let gone = forget_all(self.alloc, names, &mut self.pairs, members);
@@ -203,7 +204,7 @@ impl ByScore {
 
     /// The pair at a place in order, counted from 0. It takes no memory.
     pub(crate) fn nth(&self, place: usize) -> Option<Pair<'_>>
-        ensures { option_map shown result ≡ slice_get (pairs_of self.now) place }
+        ensures { option_map lent_pair result ≡ slice_get (pairs_of self.now) place }
     {
         pair_at(&self.pairs, place)
     }
@@ -213,7 +214,7 @@ impl ByScore {
         requires ordered { first ≤ past }
         requires within { past ≤ finite.len self.now }
         ensures { IfOk result (λ pairs.
-            map shown pairs.items ≡ slice_range (pairs_of self.now) first past) }
+            map lent_pair pairs.items ≡ slice_range (pairs_of self.now) first past) }
     {
         pairs_between(self.alloc, &self.pairs, first, past)
     }

@@ -4,8 +4,9 @@ ghost use Rattle.std.specs.Ordering.{is_gt};
 ghost use Rattle.std.specs.FinMap as finite;
 ghost use Rattle.std.specs.List.{AllWithin};
 ghost use Rattle.std.specs.declared.cmp.Ordering.TheVariants.{Less};
-ghost use Rattle.mr_zset.specs.Leaving.{texts, without_scores, without_pairs, AreBetween, AreStoredBesides, HaveRange};
-ghost use Rattle.mr_zset.specs.Pairs.{is_other, pair_cmp, shown};
+ghost use Rattle.mr_map.specs.Bytes.{lent};
+ghost use Rattle.mr_zset.specs.Leaving.{without_scores, without_pairs, AreBetween, AreStoredBesides, HaveRange};
+ghost use Rattle.mr_zset.specs.Pairs.{is_other, pair_cmp, lent_pair};
 ghost use Rattle.mr_zset.specs.Stored.{stored, AreStored};
 
 use crate::entry::Entry;
@@ -23,7 +24,7 @@ pub(crate) fn forget_all<'m>(
     members: &[&'m [u8]],
 ) -> Vec<Pair<'m>>
     requires { AreStored scores.old pairs.old }
-    ensures scores { scores.new ≡ without_scores (texts members.now) scores.old }
+    ensures scores { scores.new ≡ without_scores (lent members.now) scores.old }
     ensures left { AreStoredBesides result.items scores.new pairs.new }
 {
     let mut gone = Vec::new(alloc);
@@ -52,9 +53,9 @@ fn forget<'m>(
 
 /// Sets a pair aside, to go with others. Where memory is lacking it goes at once.
 fn set_aside<'m>(pairs: &mut Ordered<Entry>, pair: Pair<'m>, gone: &mut Vec<Pair<'m>>)
-    ensures { without_pairs (map shown gone.new.items) (map stored pairs.new) ≡
-        filter (is_other (shown pair.entry))
-        (without_pairs (map shown gone.old.items) (map stored pairs.old)) }
+    ensures { without_pairs (map lent_pair gone.new.items) (map stored pairs.new) ≡
+        filter (is_other (lent_pair pair.entry))
+        (without_pairs (map lent_pair gone.old.items) (map stored pairs.old)) }
 {
     if gone.push(pair).is_err() {
         take_out(pairs, pair);
@@ -63,8 +64,8 @@ fn set_aside<'m>(pairs: &mut Ordered<Entry>, pair: Pair<'m>, gone: &mut Vec<Pair
 
 /// Takes pairs out, of which so many are left then. Where no other pair stands between them they go at once.
 pub(crate) fn take_out_all(pairs: &mut Ordered<Entry>, gone: &[Pair<'_>], left: usize)
-    requires { left ≡ length (without_pairs (map shown gone.now) (map stored pairs.old)) }
-    ensures { map stored pairs.new ≡ without_pairs (map shown gone.now) (map stored pairs.old) }
+    requires { left ≡ length (without_pairs (map lent_pair gone.now) (map stored pairs.old)) }
+    ensures { map stored pairs.new ≡ without_pairs (map lent_pair gone.now) (map stored pairs.old) }
 {
     if let Some((first, past)) = range_of(pairs, gone) {
         if pairs.len() - (past - first) == left {
@@ -77,7 +78,7 @@ pub(crate) fn take_out_all(pairs: &mut Ordered<Entry>, gone: &[Pair<'_>], left: 
 
 /// Takes pairs out, one by one.
 fn take_out_each(pairs: &mut Ordered<Entry>, gone: &[Pair<'_>])
-    ensures { map stored pairs.new ≡ without_pairs (map shown gone.now) (map stored pairs.old) }
+    ensures { map stored pairs.new ≡ without_pairs (map lent_pair gone.now) (map stored pairs.old) }
 {
     for pair in gone {
         take_out(pairs, *pair);
@@ -102,7 +103,7 @@ fn range_of(pairs: &Ordered<Entry>, gone: &[Pair<'_>]) -> Option<(usize, usize)>
 fn past_of(pairs: &Ordered<Entry>, pair: Pair<'_>) -> usize
     ensures within { result ≤ length pairs.now }
     ensures back { AllWithin (λ y.
-        pair_cmp (shown pair.entry) (stored y) ≡ Less) pairs.now result (length pairs.now) }
+        pair_cmp (lent_pair pair.entry) (stored y) ≡ Less) pairs.now result (length pairs.now) }
 {
     match pairs.locate(pair) {
         Ok(at) => {
@@ -129,16 +130,16 @@ fn span<'m>(pairs: &[Pair<'m>]) -> Option<(Pair<'m>, Pair<'m>)>
 
 /// The lesser of two pairs.
 fn lesser<'m>(one: Pair<'m>, other: Pair<'m>) -> Pair<'m>
-    ensures one { is_gt (pair_cmp (shown result) (shown one.entry)) ≡ false }
-    ensures other { is_gt (pair_cmp (shown result) (shown other.entry)) ≡ false }
+    ensures one { is_gt (pair_cmp (lent_pair result) (lent_pair one.entry)) ≡ false }
+    ensures other { is_gt (pair_cmp (lent_pair result) (lent_pair other.entry)) ≡ false }
 {
     if one.cmp(&other).is_gt() { other } else { one }
 }
 
 /// The greater of two pairs.
 fn greater<'m>(one: Pair<'m>, other: Pair<'m>) -> Pair<'m>
-    ensures one { is_gt (pair_cmp (shown one.entry) (shown result)) ≡ false }
-    ensures other { is_gt (pair_cmp (shown other.entry) (shown result)) ≡ false }
+    ensures one { is_gt (pair_cmp (lent_pair one.entry) (lent_pair result)) ≡ false }
+    ensures other { is_gt (pair_cmp (lent_pair other.entry) (lent_pair result)) ≡ false }
 {
     if other.cmp(&one).is_gt() { other } else { one }
 }

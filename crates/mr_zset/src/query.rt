@@ -1,6 +1,6 @@
 // What is looked for among stored pairs: a pair, and where a range of scores begins and ends.
 ghost use Rattle.std.specs.BTreeMap.Comparable.{le_lt_trans};
-ghost use Rattle.mr_zset.specs.Pairs.{pair_cmp, shown};
+ghost use Rattle.mr_zset.specs.Pairs.{pair_cmp, lent_pair};
 ghost use Rattle.mr_zset.specs.Stored.{short_shown, stored};
 ghost use Rattle.mr_zset.specs.Limits.{start_cmp, end_cmp, start_below, end_below, pairs_total};
 
@@ -12,9 +12,9 @@ use mr_order::Query;
 use std::cmp::Ordering;
 
 impl<'a> Query<Entry> for Pair<'a> {
-    ghost compare = { λ q x. pair_cmp (shown q) (stored x) };
+    ghost compare = { λ q x. pair_cmp (lent_pair q) (stored x) };
 
-    ghost below_greater = { λ q x y. le_lt_trans pairs_total (shown q) (stored x) (stored y) };
+    ghost below_greater = { λ q x y. le_lt_trans pairs_total (lent_pair q) (stored x) (stored y) };
 
     fn compare(&self, item: &Entry) -> Ordering {
         self.cmp(&Pair {

@@ -1,8 +1,9 @@
 // What a sorted set holds once it has a member: its pairs in order, and once they are no longer few a map by name.
 ghost use Rattle.std.specs.Prelude.{◌≡◌, ◌-◌, IsTrue, OnOk, OnErr, IfOk, IfSome, Some, None, length, slice_get};
 ghost use Rattle.std.specs.FinMap as finite;
+ghost use Rattle.mr_map.specs.Bytes.{lent};
 ghost use Rattle.mr_score.specs.Score.{is_score};
-ghost use Rattle.mr_zset.specs.Leaving.{texts, without_scores};
+ghost use Rattle.mr_zset.specs.Leaving.{without_scores};
 ghost use Rattle.mr_zset.specs.Pairs.{pairs_of, without};
 
 use crate::by_score::ByScore;
@@ -137,7 +138,7 @@ impl Ranked {
 
     /// Removes members, where they are there. It takes memory, but needs none.
     pub(crate) fn remove_all(&mut self, members: &[&[u8]])
-        ensures { self.new ≡ without_scores (texts members.now) self.old }
+        ensures { self.new ≡ without_scores (lent members.now) self.old }
     {
         if let Some(names) = &mut self.names {
             self.scores.take_all(names, members);

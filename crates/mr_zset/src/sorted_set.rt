@@ -1,9 +1,10 @@
 // A sorted set.
 ghost use Rattle.std.specs.Prelude.{◌≡◌, ◌==◌, ◌+◌, ◌-◌, ◌<◌, ◌≤◌, ◌^◌, ℕ, IsTrue, OnOk, OnErr, IfOk, IfSome, count_by, length, map, option_map, slice_get, slice_range};
 ghost use Rattle.std.specs.FinMap as finite;
+ghost use Rattle.mr_map.specs.Bytes.{lent};
 ghost use Rattle.mr_score.specs.Score.{is_score};
-ghost use Rattle.mr_zset.specs.Leaving.{texts, without_scores};
-ghost use Rattle.mr_zset.specs.Pairs.{pair_lt, pairs_of, rank_of, range_of, shown, without};
+ghost use Rattle.mr_zset.specs.Leaving.{without_scores};
+ghost use Rattle.mr_zset.specs.Pairs.{pair_lt, pairs_of, rank_of, range_of, lent_pair, without};
 
 use crate::bound::Bound;
 use crate::member_scores::{MemberScores, Walk};
@@ -116,7 +117,7 @@ impl ZSet {
     /// Removes members, where they are there. It takes memory, but needs none: with it, pairs that stand side by side in order go
     /// at once.
     pub fn remove_all(&mut self, members: &[&[u8]])
-        ensures { self.new ≡ without_scores (texts members.now) self.old }
+        ensures { self.new ≡ without_scores (lent members.now) self.old }
     {
         if let Some(ranked) = &mut self.ranked {
             ranked.remove_all(members);
@@ -153,7 +154,7 @@ impl ZSet {
 
     /// The pair at a place in order, counted from 0. It takes no memory.
     pub fn nth(&self, place: usize) -> Option<Pair<'_>>
-        ensures { option_map shown result ≡ slice_get (pairs_of self.now) place }
+        ensures { option_map lent_pair result ≡ slice_get (pairs_of self.now) place }
     {
         match &self.ranked {
             Some(ranked) => ranked.scores().nth(place),
@@ -166,7 +167,7 @@ impl ZSet {
         requires ordered { first ≤ last }
         requires within { last < finite.len self.now }
         ensures { IfOk result (λ pairs.
-            map shown pairs.items ≡ slice_range (pairs_of self.now) first (last + 1)) }
+            map lent_pair pairs.items ≡ slice_range (pairs_of self.now) first (last + 1)) }
     {
         prove!(last < self.len());
         self.between(first, last + 1)
@@ -177,7 +178,7 @@ impl ZSet {
         requires ordered { first ≤ past }
         requires within { past ≤ finite.len self.now }
         ensures { IfOk result (λ pairs.
-            map shown pairs.items ≡ slice_range (pairs_of self.now) first past) }
+            map lent_pair pairs.items ≡ slice_range (pairs_of self.now) first past) }
     {
         match &self.ranked {
             Some(ranked) => ranked.scores().between(first, past),
@@ -187,7 +188,7 @@ impl ZSet {
 
     /// The pairs whose scores are within two bounds, in order.
     pub fn by_score(&self, from: Bound, to: Bound) -> Result<Vec<Pair<'_>>, AllocError>
-        ensures { IfOk result (λ pairs. map shown pairs.items ≡ range_of from to self.now) }
+        ensures { IfOk result (λ pairs. map lent_pair pairs.items ≡ range_of from to self.now) }
     {
         let (first, past) = self.places(from, to);
         self.between(first, past)

@@ -3,7 +3,7 @@ ghost use Rattle.std.specs.Prelude.{◌≡◌, ◌+◌, ◌<◌, ◌≤◌, ◌^
 ghost use Rattle.std.specs.BTreeSet.{insert_key};
 ghost use Rattle.mr_order.specs.Changes.{IsTaken};
 ghost use Rattle.mr_zset.specs.Bounds.{is_within};
-ghost use Rattle.mr_zset.specs.Pairs.{is_other, pair_cmp, pair_lt, shown};
+ghost use Rattle.mr_zset.specs.Pairs.{is_other, pair_cmp, pair_lt, lent_pair};
 ghost use Rattle.mr_zset.specs.Stored.{stored};
 
 use crate::bound::Bound;
@@ -28,16 +28,16 @@ pub(crate) fn put_in(pairs: &mut Ordered<Entry>, entry: Entry) -> Result<(), All
 /// Takes a pair out, if it is there, and answers it.
 pub(crate) fn take_out(pairs: &mut Ordered<Entry>, pair: Pair<'_>) -> Option<Entry>
     ensures answer { MatchOption result (pairs.new ≡ pairs.old) (λ entry.
-        stored entry ≡ shown pair.entry) }
+        stored entry ≡ lent_pair pair.entry) }
     ensures rest { map stored pairs.new ≡
-        filter (is_other (shown pair.entry)) (map stored pairs.old) }
+        filter (is_other (lent_pair pair.entry)) (map stored pairs.old) }
 {
     taken(pairs, pair)
 }
 
 /// Takes a pair out, if it is there, and answers it. A member of few bytes is looked up as a number.
 fn taken(pairs: &mut Ordered<Entry>, pair: Pair<'_>) -> Option<Entry>
-    ensures { IsTaken (λ y. pair_cmp (shown pair.entry) (stored y)) pairs.old result pairs.new }
+    ensures { IsTaken (λ y. pair_cmp (lent_pair pair.entry) (stored y)) pairs.old result pairs.new }
 {
     match ShortKey::of(pair.member) {
         Some(short) => pairs.take(ShortPair {
@@ -51,7 +51,7 @@ fn taken(pairs: &mut Ordered<Entry>, pair: Pair<'_>) -> Option<Entry>
 /// How many stored pairs are less than this one. It is compared with at most as many as their number has binary digits.
 pub(crate) fn place_of(pairs: &Ordered<Entry>, pair: Pair<'_>, steps: &mut Steps) -> usize
     ensures count { result ≡
-        count_by (λ p. pair_lt p (shown pair.entry)) (map stored pairs.now) }
+        count_by (λ p. pair_lt p (lent_pair pair.entry)) (map stored pairs.now) }
     ensures steps { (digits : ℕ) → length pairs.now < 2 ^ digits →
         steps.new.count ≤ steps.old.count + digits }
 {
@@ -89,7 +89,7 @@ pub(crate) fn pairs_between(
     requires ordered { from ≤ to }
     requires within { to ≤ length pairs.now }
     ensures { IfOk result (λ part.
-        map shown part.items ≡ slice_range (map stored pairs.now) from to) }
+        map lent_pair part.items ≡ slice_range (map stored pairs.now) from to) }
 {
     let mut part = Vec::with_capacity(alloc, to - from)?;
     for entry in pairs.range(from, to) {
@@ -103,7 +103,7 @@ pub(crate) fn pairs_between(
 
 /// The pair at a place, counted from 0.
 pub(crate) fn pair_at(pairs: &Ordered<Entry>, place: usize) -> Option<Pair<'_>>
-    ensures { option_map shown result ≡ slice_get (map stored pairs.now) place }
+    ensures { option_map lent_pair result ≡ slice_get (map stored pairs.now) place }
 {
     if place >= pairs.len() {
         return None;

@@ -1,10 +1,10 @@
 // Effects that take many members of a sorted set out, of which others stay.
 ghost use Rattle.std.specs.Prelude.{◌≡◌, ◌++◌, IsTrue, IfSome, Some, true};
 ghost use Rattle.std.specs.Bool.{⊤, MatchBool};
+ghost use Rattle.mr_map.specs.Bytes.{lent};
 ghost use Rattle.mr_bytes.specs.Words.{fits};
 ghost use Rattle.mr_keyspace.specs.Changes.{at_key};
 ghost use Rattle.mr_keyspace.specs.Steps.{remove_scores_step};
-ghost use Rattle.mr_zset.specs.Leaving.{texts};
 ghost use Rattle.mr_data.specs.Meaning.{apply_all};
 ghost use Rattle.mr_data.specs.Whole.{TakeAll, TakesMore};
 
@@ -37,7 +37,7 @@ impl Dataset {
         ensures fits { IfSome result (λ named. IsTrue (fits named.0.now)) }
         ensures same { IfSome result (λ named.
             apply_all effects.now self.now ≡
-            at_key (remove_scores_step (texts named.1.items)) named.0.now self.now) }
+            at_key (remove_scores_step (lent named.1.items)) named.0.now self.now) }
     {
         let [first, _, ..] = effects else {
             return None;
@@ -55,7 +55,7 @@ impl Dataset {
 /// The members that effects, one after another, take out of the sorted set at a key, if they do nothing else and memory
 /// suffices.
 fn members_of<'e>(alloc: Global, effects: &'e [Effect<'_>], key: &[u8]) -> Option<Vec<&'e [u8]>>
-    ensures { IfSome result (λ members. TakeAll key.now effects.now (texts members.items)) }
+    ensures { IfSome result (λ members. TakeAll key.now effects.now (lent members.items)) }
 {
     let mut members = Vec::new(alloc);
     for effect in effects {
@@ -69,7 +69,7 @@ fn members_of<'e>(alloc: Global, effects: &'e [Effect<'_>], key: &[u8]) -> Optio
 /// Whether an effect may be done and takes members out of the sorted set at a key, which are put behind those that are there.
 fn takes_more<'e>(effect: &'e Effect<'_>, key: &[u8], members: &mut Vec<&'e [u8]>) -> bool
     ensures { MatchBool result
-        (TakesMore key.now effect.now (texts members.old.items) (texts members.new.items)) ⊤ }
+        (TakesMore key.now effect.now (lent members.old.items) (lent members.new.items)) ⊤ }
 {
     match effect {
         Effect::RemoveScores {
@@ -84,7 +84,7 @@ fn takes_more<'e>(effect: &'e Effect<'_>, key: &[u8], members: &mut Vec<&'e [u8]
 
 /// Puts words behind members, and says whether memory sufficed.
 fn put_behind<'e>(words: &'e [Word<'_>], members: &mut Vec<&'e [u8]>) -> bool
-    ensures { result ≡ true → texts members.new.items ≡ texts members.old.items ++ words.now }
+    ensures { result ≡ true → lent members.new.items ≡ lent members.old.items ++ words.now }
 {
     for word in words {
         if members.push(word.as_slice()).is_err() {

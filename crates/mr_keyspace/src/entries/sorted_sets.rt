@@ -1,12 +1,12 @@
 // Effects on sorted sets.
 ghost use Rattle.std.specs.Prelude.{◌≡◌, ◌≢◌, IsTrue, Err, OnOk};
 ghost use Rattle.std.specs.List.{list_all};
+ghost use Rattle.mr_map.specs.Bytes.{lent};
 ghost use Rattle.mr_effect.specs.Effects.{is_some_of, has_score};
 ghost use Rattle.mr_keyspace.specs.Collections.{with_scores, without_scores};
 ghost use Rattle.mr_keyspace.specs.Changes.{at_key};
 ghost use Rattle.mr_keyspace.specs.Steps.{set_scores_step, remove_scores_step};
 ghost use Rattle.mr_keyspace.specs.Outcome.{Applies};
-ghost use Rattle.mr_zset.specs.Leaving.{texts};
 
 use crate::entries::Entries;
 use crate::fault::ApplyFault;
@@ -66,7 +66,7 @@ impl Entries {
 
     /// Removes members of the sorted set at a key, many at once, and the key with the last of them. It takes memory, but needs none.
     pub fn remove_many(&mut self, key: &[u8], members: &[&[u8]]) -> Result<(), ApplyFault>
-        ensures applies { Applies (at_key (remove_scores_step (texts members.now)) key.now self.old)
+        ensures applies { Applies (at_key (remove_scores_step (lent members.now)) key.now self.old)
             self.old result self.new }
         ensures memory { result ≢ Err ApplyFault.Memory }
     {
@@ -107,7 +107,7 @@ fn take_scores(set: &mut ZSet, members: &[Word<'_>])
 
 /// Removes members from a sorted set, where they are there, many at once.
 fn take_many(set: &mut ZSet, members: &[&[u8]])
-    ensures { set.new ≡ without_scores (texts members.now) set.old }
+    ensures { set.new ≡ without_scores (lent members.now) set.old }
 {
     set.remove_all(members);
 }

@@ -3,7 +3,7 @@ use Rattle.std.specs.Prelude.{ℤ, Result, Ok, Err, MatchOption}
 use Rattle.mr_order.specs.Changes.{IsItemAt, IsTaken, left_at}
 use Rattle.mr_order.specs.Standing.{IsPlaceOf}
 use Rattle.mr_zset.specs.declared.entry.Entry.{Entry}
-use Rattle.mr_zset.specs.Pairs.{pair_cmp, shown}
+use Rattle.mr_zset.specs.Pairs.{pair_cmp, lent_pair}
 use Rattle.mr_zset.specs.Stored.{stored}
 use Rattle.mr_zset.proofs.Cuts.{taken_out}
 use Rattle.mr_zset.proofs.PairLemmas.{exact_pair, pairs_total}
@@ -18,7 +18,7 @@ pair_taken p xs ys t k = by k.place t k.is k.item k.left where
   by (Err at) (Some x) stands h e = absurd h
 
 pub returns-clause-answer : goal.returns-clause-answer
-returns-clause-answer c = pair_taken (shown c.args.pair) c.args.pairs.now c.taken.new.pairs c.taken.result c.taken.ensures
+returns-clause-answer c = pair_taken (lent_pair c.args.pair) c.args.pairs.now c.taken.new.pairs c.taken.result c.taken.ensures
 
 pub returns-clause-rest : goal.returns-clause-rest
-returns-clause-rest c = taken_out pairs_total stored (shown c.args.pair) c.args.pairs.now c.taken.new.pairs c.taken.result c.taken.ensures
+returns-clause-rest c = taken_out pairs_total stored (lent_pair c.args.pair) c.args.pairs.now c.taken.new.pairs c.taken.result c.taken.ensures
