@@ -52,12 +52,12 @@ fn planned(
     ensures kept { IsDataset held.now }
 {
     let mut effects = Effects::new(alloc);
-    let live_entry = look(alloc, held, key_of(ask), given, &mut effects)?;
+    let live_entry = look(held, key_of(ask), given, &mut effects)?;
     let none = Hash::new(alloc);
     let Some(hash) = hash_at(&none, live_entry) else {
         return Ok(effects.into_plan(wrong_kind()));
     };
-    let reply = change(alloc, ask, hash, &mut effects)?;
+    let reply = change(ask, hash, &mut effects)?;
     Ok(effects.into_plan(reply))
 }
 
@@ -94,30 +94,22 @@ fn hash_at<'h>(none: &'h Hash, live_entry: Option<&'h Entry>) -> Option<&'h Hash
 }
 
 /// What a command on a hash is answered. Its effects are put behind those that are there.
-fn change(
-    alloc: Global,
-    ask: &HashAsk<'_, '_>,
-    hash: &Hash,
-    effects: &mut Effects,
-) -> Result<Reply, AllocError>
+fn change(ask: &HashAsk<'_, '_>, hash: &Hash, effects: &mut Effects) -> Result<Reply, AllocError>
     ensures { IfOk result (λ r. Makes (change ask.now hash.now) (view r) effects.old effects.new) }
 {
+    let alloc = effects.alloc();
     match ask {
-        HashAsk::HSet { key, pairs, reply } => {
-            setting::hset(alloc, key, pairs, *reply, hash, effects)
-        }
+        HashAsk::HSet { key, pairs, reply } => setting::hset(key, pairs, *reply, hash, effects),
         HashAsk::HSetNx { key, field, value } => {
-            setting::hsetnx(alloc, key, field, value, hash, effects)
+            setting::hsetnx(key, field, value, hash, effects)
         }
         HashAsk::HGet { key: _, field } => reading::hget(alloc, field, hash),
         HashAsk::HMGet { key: _, fields } => reading::hmget(alloc, fields, hash),
         HashAsk::ListHash { key: _, part } => reading::list_hash(alloc, *part, hash),
-        HashAsk::HDel { key, fields } => { removing::hdel(alloc, key, fields, hash, effects) }
+        HashAsk::HDel { key, fields } => removing::hdel(key, fields, hash, effects),
         HashAsk::HExists { key: _, field } => Ok(reading::hexists(field, hash)),
         HashAsk::HLen { key: _ } => Ok(reading::hlen(hash)),
         HashAsk::HStrLen { key: _, field } => Ok(reading::hstrlen(field, hash)),
-        HashAsk::HIncrBy { key, field, by } => {
-            setting::hincrby(alloc, key, field, *by, hash, effects)
-        }
+        HashAsk::HIncrBy { key, field, by } => { setting::hincrby(key, field, *by, hash, effects) }
     }
 }

@@ -81,7 +81,7 @@ fn pairs(alloc: Global, hash: &Hash) -> Result<Reply, AllocError>
     let mut replies = Vec::with_capacity(alloc, hash.len() * 2)?;
     for (field, value) in hash.iter() {
         replies.push(Reply::bulk(alloc, field)?)?;
-        replies.push(Reply::bulk(alloc, value.as_slice())?)?;
+        replies.push(Reply::bulk(alloc, value)?)?;
     }
     Ok(Reply::Array(replies))
 }
@@ -103,7 +103,7 @@ fn values(alloc: Global, hash: &Hash) -> Result<Reply, AllocError>
 {
     let mut replies = Vec::with_capacity(alloc, hash.len())?;
     for (_, value) in hash.iter() {
-        replies.push(Reply::bulk(alloc, value.as_slice())?)?;
+        replies.push(Reply::bulk(alloc, value)?)?;
     }
     Ok(Reply::Array(replies))
 }

@@ -29,7 +29,6 @@ fn names<'a>(alloc: Global, fields: &Words<'a, '_>) -> Result<SliceMap<'a, ()>, 
 
 /// Puts the effects of fields that go, where they are there, and answers how many these are.
 fn push_removed(
-    alloc: Global,
     key: &Argument<'_>,
     names: &SliceMap<'_, ()>,
     hash: &Hash,
@@ -42,7 +41,7 @@ fn push_removed(
         effects.old ++
         map (made.RemoveFields key.now) (cut (filter (contains_key hash.now) (keys names.now)))) }
 {
-    let mut group = FieldGroup::new(alloc, key.as_slice());
+    let mut group = FieldGroup::new(effects.alloc(), key.as_slice());
     let mut removed = names.len();
     for (field, _) in names.iter() {
         let there = hash.contains(field);
@@ -56,7 +55,6 @@ fn push_removed(
 /// What `HDEL` of one field is answered, without putting fields in order. Its effect is put behind those that are
 /// there.
 fn remove_field(
-    alloc: Global,
     key: &Argument<'_>,
     field: &[u8],
     hash: &Hash,
@@ -66,7 +64,7 @@ fn remove_field(
         Makes (hdel key.now (field.now ∷ []) hash.now) (view r) effects.old effects.new) }
 {
     let there = hash.contains(field);
-    let mut group = FieldGroup::new(alloc, key.as_slice());
+    let mut group = FieldGroup::new(effects.alloc(), key.as_slice());
     group.push(field, there, effects)?;
     end_fields(group, effects)?;
     Ok(count(usize::from(there)))
@@ -74,7 +72,6 @@ fn remove_field(
 
 /// `HDEL`
 pub fn hdel(
-    alloc: Global,
     key: &Argument<'_>,
     fields: &Words<'_, '_>,
     hash: &Hash,
@@ -84,9 +81,9 @@ pub fn hdel(
         Makes (hdel key.now fields.now hash.now) (view r) effects.old effects.new) }
 {
     if let [field] = fields.as_slice() {
-        return remove_field(alloc, key, field.as_slice(), hash, effects);
+        return remove_field(key, field.as_slice(), hash, effects);
     }
-    let names = names(alloc, fields)?;
-    let removed = push_removed(alloc, key, &names, hash, effects)?;
+    let names = names(effects.alloc(), fields)?;
+    let removed = push_removed(key, &names, hash, effects)?;
     Ok(count(removed))
 }

@@ -35,7 +35,6 @@ fn last_values<'a>(
 
 /// Puts the effects of fields that get these values, and answers how many of them are new.
 fn push_changed(
-    alloc: Global,
     key: &Argument<'_>,
     values: &SliceMap<'_, Argument<'_>>,
     hash: &Hash,
@@ -49,7 +48,7 @@ fn push_changed(
         map (made.SetFields key.now)
         (cut (filter (λ p. not (is_value p.1 (get hash.now p.0))) (entries values.now)))) }
 {
-    let mut group = PairGroup::new(alloc, key.as_slice());
+    let mut group = PairGroup::new(effects.alloc(), key.as_slice());
     let mut new = values.len();
     for (field, value) in values.iter() {
         let before = hash.get(field);
@@ -71,34 +70,40 @@ fn fields_reply(reply: FieldsReply, new: usize) -> Reply
     }
 }
 
+/// A field with the value that it gets.
+#[derive(Clone, Copy)]
+struct FieldValue<'w> {
+    field: &'w [u8],
+    value: &'w [u8],
+}
+
 /// The field with its value, where pairs are one alone.
-fn only_pair<'a>(pairs: &WordPairs<'a, '_>) -> Option<(&'a [u8], &'a [u8])>
-    ensures one { IfSome result (λ p. pairs.now ≡ (p.0.now, p.1.now) ∷ []) }
+fn only_pair<'a>(pairs: &WordPairs<'a, '_>) -> Option<FieldValue<'a>>
+    ensures one { IfSome result (λ p. pairs.now ≡ (p.field.now, p.value.now) ∷ []) }
     ensures other { IfNone result (length pairs.now ≢ 1) }
 {
     if pairs.len() != 1 {
         return None;
     }
-    pairs.iter().next()
+    let (field, value) = pairs.iter().next()?;
+    Some(FieldValue { field, value })
 }
 
 /// Puts the effect of one field that gets a value, unless it has it already.
 fn push_pair(
-    alloc: Global,
     key: &Argument<'_>,
-    field: &[u8],
-    value: &[u8],
+    pair: FieldValue<'_>,
     before: Option<&[u8]>,
     effects: &mut Effects,
 ) -> Result<(), AllocError>
     ensures { OnOk result (effects.new ≡
         effects.old ++
         map (made.SetFields key.now)
-        (cut (if is_value value.now (option_copied before.entry) then []
-        else (field.now, value.now) ∷ []))) }
+        (cut (if is_value pair.entry.value.now (option_copied before.entry) then []
+        else (pair.entry.field.now, pair.entry.value.now) ∷ []))) }
 {
-    let mut group = PairGroup::new(alloc, key.as_slice());
-    group.push(field, value, before, effects)?;
+    let mut group = PairGroup::new(effects.alloc(), key.as_slice());
+    group.push(pair.field, pair.value, before, effects)?;
     end_pairs(group, effects)?;
     Ok(())
 }
@@ -106,26 +111,23 @@ fn push_pair(
 /// What `HSET` or `HMSET` of one field is answered, without putting fields in order. Its effect is put behind those
 /// that are there.
 fn set_field(
-    alloc: Global,
     key: &Argument<'_>,
-    field: &[u8],
-    value: &[u8],
+    pair: FieldValue<'_>,
     reply: FieldsReply,
     hash: &Hash,
     effects: &mut Effects,
 ) -> Result<Reply, AllocError>
     ensures { IfOk result (λ r.
-        Makes (hset key.now reply ((field.now, value.now) ∷ []) hash.now) (view r) effects.old
-        effects.new) }
+        Makes (hset key.now reply ((pair.entry.field.now, pair.entry.value.now) ∷ []) hash.now)
+        (view r) effects.old effects.new) }
 {
-    let before = hash.get(field);
-    push_pair(alloc, key, field, value, before, effects)?;
+    let before = hash.get(pair.field);
+    push_pair(key, pair, before, effects)?;
     Ok(fields_reply(reply, usize::from(before.is_none())))
 }
 
 /// `HSET`, `HMSET`
 pub fn hset(
-    alloc: Global,
     key: &Argument<'_>,
     pairs: &WordPairs<'_, '_>,
     reply: FieldsReply,
@@ -135,17 +137,16 @@ pub fn hset(
     ensures { IfOk result (λ r.
         Makes (hset key.now reply pairs.now hash.now) (view r) effects.old effects.new) }
 {
-    if let Some((field, value)) = only_pair(pairs) {
-        return set_field(alloc, key, field, value, reply, hash, effects);
+    if let Some(pair) = only_pair(pairs) {
+        return set_field(key, pair, reply, hash, effects);
     }
-    let values = last_values(alloc, pairs)?;
-    let new = push_changed(alloc, key, &values, hash, effects)?;
+    let values = last_values(effects.alloc(), pairs)?;
+    let new = push_changed(key, &values, hash, effects)?;
     Ok(fields_reply(reply, new))
 }
 
 /// `HSETNX`
 pub fn hsetnx(
-    alloc: Global,
     key: &Argument<'_>,
     field: &Argument<'_>,
     value: &Argument<'_>,
@@ -158,14 +159,11 @@ pub fn hsetnx(
     if hash.contains(field.as_slice()) {
         return Ok(integer(0));
     }
-    push_pair(
-        alloc,
-        key,
-        field.as_slice(),
-        value.as_slice(),
-        None,
-        effects,
-    )?;
+    let pair = FieldValue {
+        field: field.as_slice(),
+        value: value.as_slice(),
+    };
+    push_pair(key, pair, None, effects)?;
     Ok(integer(1))
 }
 
@@ -181,7 +179,6 @@ fn number_at(before: Option<&[u8]>) -> Option<i64>
 
 /// `HINCRBY`
 pub fn hincrby(
-    alloc: Global,
     key: &Argument<'_>,
     field: &Argument<'_>,
     by: i64,
@@ -200,6 +197,10 @@ pub fn hincrby(
     };
     let mut buffer = Buffer::new();
     let text = buffer.format(sum).as_bytes();
-    push_pair(alloc, key, field.as_slice(), text, before, effects)?;
+    let pair = FieldValue {
+        field: field.as_slice(),
+        value: text,
+    };
+    push_pair(key, pair, before, effects)?;
     Ok(integer(sum))
 }

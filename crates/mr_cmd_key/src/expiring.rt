@@ -2,38 +2,62 @@
 ghost use Rattle.std.specs.Prelude.{◌≡◌, ◌≤ℤ◌, pos, IfOk, IfSome, option_copied};
 ghost use Rattle.mr_resp.specs.ReplyView.{view};
 ghost use Rattle.mr_effect.specs.Effects.{last_deadline};
+ghost use Rattle.mr_arguments.specs.Expiry.{deadline_at};
 ghost use Rattle.mr_data.specs.Dataset.{IsLifetime};
 ghost use Rattle.mr_cmd_shared.specs.Answered.{Takes};
 ghost use Rattle.mr_cmd_key.specs.Expiring.{allows, deadline_in, expire_answer, in_seconds, is_until, lifetime_in, persist_answer, answered_in};
 
 use crate::key_ask::ExpireCondition;
-use mr_arguments::Argument;
+use mr_arguments::{Argument, Expiry};
 use mr_bytes::Word;
 use mr_cmd_shared::{Effects, count};
 use mr_data::{Effect, Entry, Given};
 use mr_resp::Reply;
-use std::alloc::{AllocError, Global};
+use std::alloc::AllocError;
+
+/// What an `EXPIRE` or one of its kin is told besides its key.
+#[derive(Clone, Copy)]
+pub struct ExpireRules {
+    pub condition: Option<ExpireCondition>,
+    pub deadline: i64,
+}
+
+impl ExpireRules {
+    /// Where these are said at this moment.
+    pub fn said(condition: Option<ExpireCondition>, expiry: Expiry, given: Given) -> ExpireRules
+        ensures { result ≡
+            record { condition = condition; deadline = deadline_at given.now expiry } }
+    {
+        ExpireRules {
+            condition,
+            deadline: expiry.deadline(given.now()),
+        }
+    }
+}
 
 /// `EXPIRE` and its kin
 pub fn expire(
-    alloc: Global,
     key: &Argument<'_>,
-    condition: Option<ExpireCondition>,
-    deadline: i64,
+    rules: ExpireRules,
     live_entry: Option<&Entry>,
     given: Given,
     effects: &mut Effects,
 ) -> Result<Reply, AllocError>
     ensures { IfOk result (λ r.
-        Takes (expire_answer key.now condition given.now deadline (option_copied live_entry.entry))
-        (view r) effects.old effects.new) }
+        Takes (expire_answer key.now rules.condition given.now rules.deadline
+        (option_copied live_entry.entry)) (view r) effects.old effects.new) }
 {
+    let ExpireRules {
+        condition,
+        deadline,
+    } = rules;
     let Some(entry) = live_entry else {
         return Ok(count(0));
     };
     if !allows(condition, entry.deadline, deadline) {
         return Ok(count(0));
     }
+    let alloc = effects.alloc();
     if deadline <= given.now() {
         effects.push(Effect::Del {
             key: Word::copied(alloc, key.as_slice())?,
@@ -78,7 +102,6 @@ fn is_until(deadline: i64, held: Option<i64>) -> bool
 
 /// `PERSIST`
 pub fn persist(
-    alloc: Global,
     key: &Argument<'_>,
     live_entry: Option<&Entry>,
     effects: &mut Effects,
@@ -94,7 +117,7 @@ pub fn persist(
         return Ok(count(0));
     }
     effects.push(Effect::Persist {
-        key: Word::copied(alloc, key.as_slice())?,
+        key: Word::copied(effects.alloc(), key.as_slice())?,
     })?;
     Ok(count(1))
 }

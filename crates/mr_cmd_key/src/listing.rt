@@ -12,22 +12,29 @@ use mr_glob::glob;
 use mr_resp::Reply;
 use std::alloc::{AllocError, Global};
 
+/// Which keys are listed: those that match the pattern and are of the kind, as far as these are asked for.
+#[derive(Clone, Copy)]
+pub struct KeyFilter<'p> {
+    pub pattern: Option<&'p [u8]>,
+    pub kind: Option<KindName>,
+}
+
 /// The keys that match and are of the kind, in byte order.
 pub fn list_keys(
     alloc: Global,
     held: &Dataset,
-    pattern: Option<&[u8]>,
-    kind: Option<KindName>,
+    filter: KeyFilter<'_>,
     given: Given,
 ) -> Result<Reply, AllocError>
     ensures { IfOk result (λ r.
-        view r ≡ bulks (listed_at given.now (option_copied pattern.entry) kind held.now)) }
+        view r ≡ bulks
+        (listed_at given.now (option_copied filter.entry.pattern) filter.entry.kind held.now)) }
 {
     // to look each of the keys up takes longer than all else
-    if kind.is_none() && is_all_live(held, given) {
-        return list_matched(alloc, held, pattern);
+    if filter.kind.is_none() && is_all_live(held, given) {
+        return list_matched(alloc, held, filter.pattern);
     }
-    list_seen(alloc, held, pattern, kind, given)
+    list_seen(alloc, held, filter, given)
 }
 
 /// The keys that match, expired ones too, in byte order. None of them is looked up.
@@ -48,16 +55,16 @@ fn list_matched(alloc: Global, held: &Dataset, pattern: Option<&[u8]>) -> Result
 fn list_seen(
     alloc: Global,
     held: &Dataset,
-    pattern: Option<&[u8]>,
-    kind: Option<KindName>,
+    filter: KeyFilter<'_>,
     given: Given,
 ) -> Result<Reply, AllocError>
     ensures { IfOk result (λ r.
-        view r ≡ bulks (listed_at given.now (option_copied pattern.entry) kind held.now)) }
+        view r ≡ bulks
+        (listed_at given.now (option_copied filter.entry.pattern) filter.entry.kind held.now)) }
 {
     let mut replies = Vec::new(alloc);
     for key in held.keys() {
-        if is_listed(held, key, pattern, kind, given) {
+        if is_listed(held, key, filter, given) {
             replies.push(bulk(alloc, key)?)?;
         }
     }
@@ -65,17 +72,12 @@ fn list_seen(
 }
 
 /// Whether a key is there and not expired, matches, and is of the kind, as far as these are asked for.
-fn is_listed(
-    held: &Dataset,
-    key: &[u8],
-    pattern: Option<&[u8]>,
-    kind: Option<KindName>,
-    given: Given,
-) -> bool
+fn is_listed(held: &Dataset, key: &[u8], filter: KeyFilter<'_>, given: Given) -> bool
     ensures { result ≡
-        is_listed_at given.now (option_copied pattern.entry) kind held.now key.now }
+        is_listed_at given.now (option_copied filter.entry.pattern) filter.entry.kind held.now
+        key.now }
 {
-    is_matched(pattern, key) && is_of_kind(kind, see(held, key, given).0)
+    is_matched(filter.pattern, key) && is_of_kind(filter.kind, see(held, key, given).0)
 }
 
 /// Whether a key matches the pattern, if there is one.
@@ -93,16 +95,16 @@ pub fn scan(
     alloc: Global,
     held: &Dataset,
     cursor: Cursor,
-    pattern: Option<&[u8]>,
-    kind: Option<KindName>,
+    filter: KeyFilter<'_>,
     given: Given,
 ) -> Result<Reply, AllocError>
     ensures { IfOk result (λ r.
         view r ≡ scan_reply
-        (from_cursor cursor (listed_at given.now (option_copied pattern.entry) kind held.now))) }
+        (from_cursor cursor
+        (listed_at given.now (option_copied filter.entry.pattern) filter.entry.kind held.now))) }
 {
     let keys = match cursor {
-        Cursor::Start => list_keys(alloc, held, pattern, kind, given)?,
+        Cursor::Start => list_keys(alloc, held, filter, given)?,
         Cursor::Behind => Reply::Array(Vec::new(alloc)),
     };
     let mut parts = Vec::with_capacity(alloc, 2)?;

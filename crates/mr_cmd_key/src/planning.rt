@@ -5,7 +5,6 @@ ghost use Rattle.mr_bytes.specs.Words.{fits};
 ghost use Rattle.mr_resp.specs.ReplyView.{view};
 ghost use Rattle.mr_data.specs.Dataset.{seen};
 ghost use Rattle.mr_cmd_key.specs.Carried.{key_words};
-ghost use Rattle.mr_arguments.specs.Expiry.{deadline_at};
 ghost use Rattle.mr_cmd_shared.specs.Commands.{IsPlan, Plans, IsFaithful, HasCommandTexts, on_key, on_keys, on_none};
 ghost use Rattle.mr_cmd_key.specs.Commands.{command, HasDeadline};
 ghost use Rattle.mr_cmd_key.specs.Kinds.{type_answer};
@@ -15,11 +14,12 @@ ghost use Rattle.mr_cmd_key.specs.Renaming.{cleared};
 ghost use Rattle.mr_cmd_key.specs.Listing.{matching, scanned, sized};
 
 use crate::counting::count_present;
-use crate::expiring::DeadlineForm;
-use crate::key_ask::{Cursor, ExpireCondition, KeyAsk, KindName};
+use crate::expiring::{DeadlineForm, ExpireRules};
+use crate::key_ask::{Cursor, KeyAsk};
+use crate::listing::KeyFilter;
 use crate::renaming::{rename, renamenx};
 use crate::{expiring, kinds, listing};
-use mr_arguments::{Argument, Expiry, Words};
+use mr_arguments::{Argument, Words};
 use mr_bytes::Word;
 use mr_cmd_shared::{Effects, count, done, integer, look, push_dels};
 use mr_data::{Dataset, Effect, Given, Plan};
@@ -72,13 +72,12 @@ fn planned(
         IsPlan (command ask.now given.now) given.now held.now (view p.reply) p.effects.items) }
 {
     let mut effects = Effects::new(alloc);
-    let reply = reply_to(alloc, held, ask, given, &mut effects)?;
+    let reply = reply_to(held, ask, given, &mut effects)?;
     Ok(effects.into_plan(reply))
 }
 
 /// What a command is answered. Its effects are put behind those that are there.
 fn reply_to(
-    alloc: Global,
     held: &Dataset,
     ask: &KeyAsk<'_, '_>,
     given: Given,
@@ -88,60 +87,49 @@ fn reply_to(
         Plans (command ask.now given.now) given.now held.now (view r) effects.old effects.new) }
 {
     match ask {
-        KeyAsk::Del { keys } => delete(alloc, held, keys, given, effects),
-        KeyAsk::Unlink { keys } => delete(alloc, held, keys, given, effects),
-        KeyAsk::Exists { keys } => exists(alloc, held, keys, given, effects),
-        KeyAsk::KeyType { key } => key_type(alloc, held, key, given, effects),
-        KeyAsk::Keys { pattern } => keys(alloc, held, pattern, given),
+        KeyAsk::Del { keys } => delete(held, keys, given, effects),
+        KeyAsk::Unlink { keys } => delete(held, keys, given, effects),
+        KeyAsk::Exists { keys } => exists(held, keys, given, effects),
+        KeyAsk::KeyType { key } => key_type(held, key, given, effects),
+        KeyAsk::Keys { pattern } => keys(effects.alloc(), held, pattern, given),
         KeyAsk::Scan {
             cursor,
             pattern,
             kind,
-        } => scan(alloc, held, *cursor, pattern, *kind, given),
+        } => {
+            let filter = KeyFilter {
+                pattern: bytes_of(pattern),
+                kind: *kind,
+            };
+            scan(effects.alloc(), held, *cursor, filter, given)
+        }
         KeyAsk::DbSize => Ok(dbsize(held, given)),
-        KeyAsk::Rename { from, to } => rename(alloc, held, from, to, given, effects),
-        KeyAsk::RenameNx { from, to } => renamenx(alloc, held, from, to, given, effects),
+        KeyAsk::Rename { from, to } => rename(held, from, to, given, effects),
+        KeyAsk::RenameNx { from, to } => renamenx(held, from, to, given, effects),
         KeyAsk::Clear { .. } => clear(held, given, effects),
         KeyAsk::Expire {
             key,
             expiry,
             condition,
-        } => expire(alloc, held, key, *expiry, *condition, given, effects),
-        KeyAsk::Ttl { key } => deadline(
-            alloc,
-            held,
-            key,
-            DeadlineForm::SecondsLeft,
-            given,
-            effects,
-        ),
-        KeyAsk::PTtl { key } => deadline(
-            alloc,
-            held,
-            key,
-            DeadlineForm::MillisecondsLeft,
-            given,
-            effects,
-        ),
-        KeyAsk::ExpireTime { key } => deadline(
-            alloc,
-            held,
-            key,
-            DeadlineForm::Second,
-            given,
-            effects,
-        ),
-        KeyAsk::PExpireTime { key } => {
-            deadline(alloc, held, key, DeadlineForm::Millisecond, given, effects)
+        } => {
+            let rules = ExpireRules::said(*condition, *expiry, given);
+            expire(held, key, rules, given, effects)
         }
-        KeyAsk::Persist { key } => persist(alloc, held, key, given, effects),
+        KeyAsk::Ttl { key } => deadline(held, key, DeadlineForm::SecondsLeft, given, effects),
+        KeyAsk::PTtl { key } => {
+            deadline(held, key, DeadlineForm::MillisecondsLeft, given, effects)
+        }
+        KeyAsk::ExpireTime { key } => deadline(held, key, DeadlineForm::Second, given, effects),
+        KeyAsk::PExpireTime { key } => {
+            deadline(held, key, DeadlineForm::Millisecond, given, effects)
+        }
+        KeyAsk::Persist { key } => persist(held, key, given, effects),
     }
 }
 
 /// What `DEL` and `UNLINK` are answered: how many of the keys were there. The DELs of expired keys and of those that go
 /// are put behind the effects that are there.
 fn delete(
-    alloc: Global,
     held: &Dataset,
     keys: &Words<'_, '_>,
     given: Given,
@@ -152,16 +140,15 @@ fn delete(
         effects.new) }
 {
     if let [only] = keys.as_slice() {
-        return delete_one(alloc, held, &Argument::of(only), given, effects);
+        return delete_one(held, &Argument::of(only), given, effects);
     }
-    push_dels(alloc, held, keys, given, true, effects)?;
-    let count = push_dels(alloc, held, keys, given, false, effects)?;
+    push_dels(held, keys, given, true, effects)?;
+    let count = push_dels(held, keys, given, false, effects)?;
     Ok(integer(count))
 }
 
 /// What `DEL` and `UNLINK` of one key are answered. It is looked up once.
 fn delete_one(
-    alloc: Global,
     held: &Dataset,
     key: &Argument<'_>,
     given: Given,
@@ -171,19 +158,18 @@ fn delete_one(
         Plans (on_keys (key.now ∷ []) (deleted (key.now ∷ []))) given.now held.now (view r)
         effects.old effects.new) }
 {
-    let live_entry = look(alloc, held, key, given, effects)?;
+    let live_entry = look(held, key, given, effects)?;
     if live_entry.is_none() {
         return Ok(integer(0));
     }
     effects.push(Effect::Del {
-        key: Word::copied(alloc, key.as_slice())?,
+        key: Word::copied(effects.alloc(), key.as_slice())?,
     })?;
     Ok(integer(1))
 }
 
 /// What `EXISTS` is answered. The DELs of expired keys are put behind the effects that are there.
 fn exists(
-    alloc: Global,
     held: &Dataset,
     keys: &Words<'_, '_>,
     given: Given,
@@ -194,16 +180,15 @@ fn exists(
         effects.new) }
 {
     if let [only] = keys.as_slice() {
-        return exists_one(alloc, held, &Argument::of(only), given, effects);
+        return exists_one(held, &Argument::of(only), given, effects);
     }
-    push_dels(alloc, held, keys, given, true, effects)?;
+    push_dels(held, keys, given, true, effects)?;
     let present = count_present(held, keys.as_slice(), given);
     Ok(count(present))
 }
 
 /// What `EXISTS` of one key is answered. It is looked up once.
 fn exists_one(
-    alloc: Global,
     held: &Dataset,
     key: &Argument<'_>,
     given: Given,
@@ -213,13 +198,12 @@ fn exists_one(
         Plans (on_keys (key.now ∷ []) (counted (key.now ∷ []))) given.now held.now (view r)
         effects.old effects.new) }
 {
-    let live_entry = look(alloc, held, key, given, effects)?;
+    let live_entry = look(held, key, given, effects)?;
     Ok(count(usize::from(live_entry.is_some())))
 }
 
 /// What `TYPE` is answered. The DEL of an expired key is put behind the effects that are there.
 fn key_type(
-    alloc: Global,
     held: &Dataset,
     key: &Argument<'_>,
     given: Given,
@@ -228,7 +212,7 @@ fn key_type(
     ensures { IfOk result (λ r.
         Plans (on_key key.now type_answer) given.now held.now (view r) effects.old effects.new) }
 {
-    let live_entry = look(alloc, held, key, given, effects)?;
+    let live_entry = look(held, key, given, effects)?;
     Ok(kinds::key_type(live_entry))
 }
 
@@ -242,7 +226,11 @@ fn keys(
     ensures { IfOk result (λ r.
         view r ≡ (matching pattern.now (seen given.now held.now)).reply) }
 {
-    listing::list_keys(alloc, held, Some(pattern.as_slice()), None, given)
+    let filter = KeyFilter {
+        pattern: Some(pattern.as_slice()),
+        kind: None,
+    };
+    listing::list_keys(alloc, held, filter, given)
 }
 
 /// What `SCAN` is answered. It has no effect.
@@ -250,14 +238,14 @@ fn scan(
     alloc: Global,
     held: &Dataset,
     cursor: Cursor,
-    pattern: &Option<Argument<'_>>,
-    kind: Option<KindName>,
+    filter: KeyFilter<'_>,
     given: Given,
 ) -> Result<Reply, AllocError>
     ensures { IfOk result (λ r.
-        view r ≡ (scanned cursor pattern.now kind (seen given.now held.now)).reply) }
+        view r ≡ (scanned cursor (option_copied filter.entry.pattern) filter.entry.kind
+        (seen given.now held.now)).reply) }
 {
-    listing::scan(alloc, held, cursor, bytes_of(pattern), kind, given)
+    listing::scan(alloc, held, cursor, filter, given)
 }
 
 /// The bytes of a word, if there is one.
@@ -291,27 +279,22 @@ fn clear(held: &Dataset, given: Given, effects: &mut Effects) -> Result<Reply, A
 
 /// What `EXPIRE` and its kin are answered. Their effects are put behind those that are there.
 fn expire(
-    alloc: Global,
     held: &Dataset,
     key: &Argument<'_>,
-    expiry: Expiry,
-    condition: Option<ExpireCondition>,
+    rules: ExpireRules,
     given: Given,
     effects: &mut Effects,
 ) -> Result<Reply, AllocError>
     ensures { IfOk result (λ r.
-        Plans (on_key key.now
-        (expire_answer key.now condition given.now (deadline_at given.now expiry))) given.now
-        held.now (view r) effects.old effects.new) }
+        Plans (on_key key.now (expire_answer key.now rules.condition given.now rules.deadline))
+        given.now held.now (view r) effects.old effects.new) }
 {
-    let live_entry = look(alloc, held, key, given, effects)?;
-    let deadline = expiry.deadline(given.now());
-    expiring::expire(alloc, key, condition, deadline, live_entry, given, effects)
+    let live_entry = look(held, key, given, effects)?;
+    expiring::expire(key, rules, live_entry, given, effects)
 }
 
 /// What `PERSIST` is answered. Its effects are put behind those that are there.
 fn persist(
-    alloc: Global,
     held: &Dataset,
     key: &Argument<'_>,
     given: Given,
@@ -321,13 +304,12 @@ fn persist(
         Plans (on_key key.now (persist_answer key.now)) given.now held.now (view r) effects.old
         effects.new) }
 {
-    let live_entry = look(alloc, held, key, given, effects)?;
-    expiring::persist(alloc, key, live_entry, effects)
+    let live_entry = look(held, key, given, effects)?;
+    expiring::persist(key, live_entry, effects)
 }
 
 /// What `TTL` and its kin are answered. The DEL of an expired key is put behind the effects that are there.
 fn deadline(
-    alloc: Global,
     held: &Dataset,
     key: &Argument<'_>,
     form: DeadlineForm,
@@ -338,7 +320,7 @@ fn deadline(
         Plans (on_key key.now (deadline_answer form given.now)) given.now held.now (view r)
         effects.old effects.new) }
 {
-    let live_entry = look(alloc, held, key, given, effects)?;
+    let live_entry = look(held, key, given, effects)?;
     let number = expiring::answered_in(form, given, live_entry);
     Ok(integer(number))
 }

@@ -14,12 +14,11 @@ use mr_bytes::Word;
 use mr_cmd_shared::{Effects, count, done, look};
 use mr_data::{Dataset, Effect, Entry, Given};
 use mr_resp::Reply;
-use std::alloc::{AllocError, Global};
+use std::alloc::AllocError;
 use std::borrow::CowSlice;
 
 /// `RENAME`
 pub fn rename(
-    alloc: Global,
     held: &Dataset,
     from: &Argument<'_>,
     to: &Argument<'_>,
@@ -30,13 +29,12 @@ pub fn rename(
         Plans (on_keys (from.now ∷ to.now ∷ []) (renamed from.now to.now)) given.now held.now
         (view r) effects.old effects.new) }
 {
-    let (source, _) = look_at_both(alloc, held, from, to, given, effects)?;
-    carry(alloc, from, to, done(), source, effects)
+    let (source, _) = look_at_both(held, from, to, given, effects)?;
+    carry(from, to, done(), source, effects)
 }
 
 /// `RENAMENX`
 pub fn renamenx(
-    alloc: Global,
     held: &Dataset,
     from: &Argument<'_>,
     to: &Argument<'_>,
@@ -47,13 +45,12 @@ pub fn renamenx(
         Plans (on_keys (from.now ∷ to.now ∷ []) (renamed_nx from.now to.now)) given.now held.now
         (view r) effects.old effects.new) }
 {
-    let (source, target) = look_at_both(alloc, held, from, to, given, effects)?;
-    carry_new(alloc, from, to, source, target, effects)
+    let (source, target) = look_at_both(held, from, to, given, effects)?;
+    carry_new(from, to, source, target, effects)
 }
 
 /// The live entries at two keys, which may be one. The DELs of expired ones are put behind the effects that are there.
 fn look_at_both<'d>(
-    alloc: Global,
     held: &'d Dataset,
     from: &Argument<'_>,
     to: &Argument<'_>,
@@ -68,18 +65,17 @@ fn look_at_both<'d>(
         effects.new ≡
         effects.old ++ dels (expired given.now (from.now ∷ to.now ∷ []) held.now)) }
 {
-    let source = look(alloc, held, from, given, effects)?;
+    let source = look(held, from, given, effects)?;
     let target = if same(from, to) {
         source
     } else {
-        look(alloc, held, to, given, effects)?
+        look(held, to, given, effects)?
     };
     Ok((source, target))
 }
 
 /// Lets what the one key has go to the other, and answers this, or the error that there is no such key.
 fn carry(
-    alloc: Global,
     from: &Argument<'_>,
     to: &Argument<'_>,
     reply: Reply,
@@ -94,6 +90,7 @@ fn carry(
         return Ok(no_key());
     }
     if !same(from, to) {
+        let alloc = effects.alloc();
         effects.push(Effect::Rename {
             from: Word::copied(alloc, from.as_slice())?,
             to: Word::copied(alloc, to.as_slice())?,
@@ -105,7 +102,6 @@ fn carry(
 /// Lets what the one key has go to the other unless that is there, and answers whether it went, or the error that there
 /// is no such key.
 fn carry_new(
-    alloc: Global,
     from: &Argument<'_>,
     to: &Argument<'_>,
     source: Option<&Entry>,
@@ -119,7 +115,7 @@ fn carry_new(
     if source.is_some() && target.is_some() {
         return Ok(count(0));
     }
-    carry(alloc, from, to, count(1), source, effects)
+    carry(from, to, count(1), source, effects)
 }
 
 /// There is no such key.

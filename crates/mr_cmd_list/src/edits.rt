@@ -13,11 +13,10 @@ use mr_cmd_shared::{Effects, done, integer};
 use mr_data::Effect;
 use mr_resp::Reply;
 use mr_value::ListValue;
-use std::alloc::{AllocError, Global};
+use std::alloc::AllocError;
 
 /// Another item in the place that an index names.
 pub fn lset(
-    alloc: Global,
     key: &Argument<'_>,
     index: i64,
     item: &Argument<'_>,
@@ -28,6 +27,7 @@ pub fn lset(
         Takes (lset_answer key.now index item.now (entry_with (option_copied list.entry))) (view r)
         effects.old effects.new) }
 {
+    let alloc = effects.alloc();
     let Some(list) = list else {
         return Ok(no_such_key());
     };
@@ -54,38 +54,43 @@ fn is_item(item: &[u8], there: Option<&[u8]>) -> bool
     }
 }
 
+/// An item to be put beside the first item that equals a pivot.
+#[derive(Drop)]
+pub struct Insertion<'w, 'a> {
+    pub side: Side,
+    pub pivot: &'w Argument<'a>,
+    pub item: &'w Argument<'a>,
+}
+
 /// An item beside the first pivot.
 pub fn linsert(
-    alloc: Global,
     key: &Argument<'_>,
-    side: Side,
-    pivot: &Argument<'_>,
-    item: &Argument<'_>,
+    asked: &Insertion<'_, '_>,
     list: Option<&ListValue>,
     effects: &mut Effects,
 ) -> Result<Reply, AllocError>
     ensures { IfOk result (λ r.
-        Takes (linsert_answer key.now side pivot.now item.now
+        Takes (linsert_answer key.now asked.now.side asked.now.pivot.now asked.now.item.now
         (entry_with (option_copied list.entry))) (view r) effects.old effects.new) }
 {
+    let alloc = effects.alloc();
     let Some(list) = list else {
         return Ok(integer(0));
     };
-    if list.position(pivot.as_slice()).is_none() {
+    if list.position(asked.pivot.as_slice()).is_none() {
         return Ok(integer(-1));
     }
     effects.push(Effect::InsertItem {
         key: Word::copied(alloc, key.as_slice())?,
-        side,
-        pivot: Word::copied(alloc, pivot.as_slice())?,
-        item: Word::copied(alloc, item.as_slice())?,
+        side: asked.side,
+        pivot: Word::copied(alloc, asked.pivot.as_slice())?,
+        item: Word::copied(alloc, asked.item.as_slice())?,
     })?;
     Ok(integer((list.len() + 1) as i64))
 }
 
 /// Items that equal one removed.
 pub fn lrem(
-    alloc: Global,
     key: &Argument<'_>,
     count: i64,
     item: &Argument<'_>,
@@ -96,6 +101,7 @@ pub fn lrem(
         Takes (lrem_answer key.now count item.now (entry_with (option_copied list.entry))) (view r)
         effects.old effects.new) }
 {
+    let alloc = effects.alloc();
     let Some(list) = list else {
         return Ok(integer(0));
     };
@@ -123,7 +129,6 @@ fn removed_count(list: &ListValue, count: i64, item: &[u8]) -> usize
 
 /// The items between two indexes alone, both included.
 pub fn ltrim(
-    alloc: Global,
     key: &Argument<'_>,
     first: i64,
     last: i64,
@@ -134,6 +139,7 @@ pub fn ltrim(
         Takes (ltrim_answer key.now first last (entry_with (option_copied list.entry))) (view r)
         effects.old effects.new) }
 {
+    let alloc = effects.alloc();
     let Some(list) = list else {
         return Ok(done());
     };

@@ -19,32 +19,38 @@ use mr_resp::Reply;
 use mr_value::ListValue;
 use std::alloc::{AllocError, Global};
 
+/// An item to be moved from an end of the list at one key to an end of the list at another, or at the same.
+#[derive(Drop)]
+pub struct Move<'w, 'a> {
+    pub from: &'w Argument<'a>,
+    pub to: &'w Argument<'a>,
+    pub taken: End,
+    pub put: End,
+}
+
 /// The plan of a command that moves an item. A key that is named twice is looked at once.
 pub fn move_item(
     alloc: Global,
     held: &Dataset,
-    from: &Argument<'_>,
-    to: &Argument<'_>,
-    taken: End,
-    put: End,
+    asked: &Move<'_, '_>,
     given: Given,
 ) -> Result<Plan, AllocError>
     ensures plan { IfOk result (λ p.
-        IsPlan (moving from.now to.now taken put) given.now held.now (view p.reply)
-        p.effects.items) }
+        IsPlan (moving asked.now.from.now asked.now.to.now asked.now.taken asked.now.put)
+        given.now held.now (view p.reply) p.effects.items) }
     ensures kept { IsDataset held.now }
 {
     let mut effects = Effects::new(alloc);
-    let source = look(alloc, held, from, given, &mut effects)?;
-    if is_same_key(from, to) {
+    let source = look(held, asked.from, given, &mut effects)?;
+    if is_same_key(asked.from, asked.to) {
         let Ok(list) = list_at(source) else {
             return Ok(effects.into_plan(wrong_kind()));
         };
-        let reply = rotate(alloc, from, taken, put, list, &mut effects)?;
+        let reply = rotate(asked.from, asked.taken, asked.put, list, &mut effects)?;
         return Ok(effects.into_plan(reply));
     }
-    let target = look(alloc, held, to, given, &mut effects)?;
-    let reply = carry(alloc, from, to, taken, put, source, target, &mut effects)?;
+    let target = look(held, asked.to, given, &mut effects)?;
+    let reply = carry(asked, source, target, &mut effects)?;
     Ok(effects.into_plan(reply))
 }
 
@@ -57,7 +63,6 @@ fn is_same_key(key: &Argument<'_>, other: &Argument<'_>) -> bool
 
 /// From one end of a list to another of the same.
 pub fn rotate(
-    alloc: Global,
     key: &Argument<'_>,
     taken: End,
     put: End,
@@ -68,6 +73,7 @@ pub fn rotate(
         Takes (rotate_answer key.now taken put (entry_with (option_copied list.entry))) (view r)
         effects.old effects.new) }
 {
+    let alloc = effects.alloc();
     let Some(list) = list else {
         return Ok(Reply::NullBulk);
     };
@@ -89,24 +95,21 @@ pub fn rotate(
 /// What is answered where an item goes from one list to another: the item, nil where there is none, or a refusal where
 /// one of the keys holds another kind. The effect is put behind those that are there.
 fn carry(
-    alloc: Global,
-    from: &Argument<'_>,
-    to: &Argument<'_>,
-    taken: End,
-    put: End,
+    asked: &Move<'_, '_>,
     source: Option<&Entry>,
     target: Option<&Entry>,
     effects: &mut Effects,
 ) -> Result<Reply, AllocError>
     ensures reply { IfOk result (λ r.
-        view r ≡ (carry from.now to.now taken put (option_copied source.entry)
-        (option_copied target.entry)).reply) }
+        view r ≡ (carry asked.now.from.now asked.now.to.now asked.now.taken asked.now.put
+        (option_copied source.entry) (option_copied target.entry)).reply) }
     ensures effects { IfOk result (λ _.
         effects.new ≡
         effects.old ++
-        (carry from.now to.now taken put (option_copied source.entry)
-        (option_copied target.entry)).effects) }
+        (carry asked.now.from.now asked.now.to.now asked.now.taken asked.now.put
+        (option_copied source.entry) (option_copied target.entry)).effects) }
 {
+    let alloc = effects.alloc();
     let Some(entry) = source else {
         return Ok(Reply::NullBulk);
     };
@@ -116,15 +119,15 @@ fn carry(
     if !takes_items(target) {
         return Ok(wrong_kind());
     }
-    let Some(item) = end_item(list, taken) else {
+    let Some(item) = end_item(list, asked.taken) else {
         return Ok(Reply::NullBulk);
     };
     let reply = bulk(alloc, item)?;
     effects.push(Effect::MoveItem {
-        from: Word::copied(alloc, from.as_slice())?,
-        to: Word::copied(alloc, to.as_slice())?,
-        taken,
-        put,
+        from: Word::copied(alloc, asked.from.as_slice())?,
+        to: Word::copied(alloc, asked.to.as_slice())?,
+        taken: asked.taken,
+        put: asked.put,
     })?;
     Ok(reply)
 }

@@ -12,8 +12,11 @@ ghost use Rattle.mr_cmd_list.specs.Lists.{entry_with};
 ghost use Rattle.mr_cmd_list.specs.Numbers.{HasNumber, HasNumbers, HasNumbersIn};
 ghost use Rattle.mr_cmd_list.specs.Commands.{answer_of, command};
 
+use crate::edits::Insertion;
 use crate::finding::list_at;
 use crate::list_ask::ListAsk;
+use crate::moves::Move;
+use crate::pushes::Pushing;
 use crate::{edits, moves, pops, pushes, telling};
 use mr_arguments::Argument;
 use mr_bytes::End;
@@ -71,9 +74,23 @@ fn planned(
             to,
             taken,
             put,
-        } => moves::move_item(alloc, held, from, to, *taken, *put, given),
+        } => {
+            let asked = Move {
+                from,
+                to,
+                taken: *taken,
+                put: *put,
+            };
+            moves::move_item(alloc, held, &asked, given)
+        }
         ListAsk::RPopLPush { from, to } => {
-            moves::move_item(alloc, held, from, to, End::Right, End::Left, given)
+            let asked = Move {
+                from,
+                to,
+                taken: End::Right,
+                put: End::Left,
+            };
+            moves::move_item(alloc, held, &asked, given)
         }
     }
 }
@@ -94,11 +111,11 @@ fn at_key(
 {
     number_is_limited(ask);
     let mut effects = Effects::new(alloc);
-    let live_entry = look(alloc, held, key, given, &mut effects)?;
+    let live_entry = look(held, key, given, &mut effects)?;
     let Ok(list) = list_at(live_entry) else {
         return Ok(effects.into_plan(wrong_kind()));
     };
-    let reply = answer_of(alloc, ask, list, &mut effects)?;
+    let reply = answer_of(ask, list, &mut effects)?;
     Ok(effects.into_plan(reply))
 }
 
@@ -114,7 +131,6 @@ fn number_is_limited(ask: &ListAsk<'_, '_>)
 /// What a command on one key is answered by the list there, which is none where the key is absent. Its effects are put
 /// behind those that are there.
 fn answer_of(
-    alloc: Global,
     ask: &ListAsk<'_, '_>,
     list: Option<&ListValue>,
     effects: &mut Effects,
@@ -123,44 +139,43 @@ fn answer_of(
         Takes (answer_of ask.now (entry_with (option_copied list.entry))) (view r) effects.old
         effects.new) }
 {
+    let alloc = effects.alloc();
     match ask {
         ListAsk::Push {
             key,
             end,
             to,
             items,
-        } => pushes::push(alloc, key, *end, *to, items, list, effects),
-        ListAsk::Pop { key, end, count } => pops::pop(alloc, key, *end, *count, list, effects),
-        ListAsk::LLen { .. } => Ok(telling::llen(list)),
-        ListAsk::LRange {
-            key: _,
-            first,
-            last,
-        } => telling::lrange(alloc, *first, *last, list),
-        ListAsk::LIndex { key: _, index } => telling::lindex(alloc, *index, list),
-        ListAsk::LSet { key, index, item } => {
-            edits::lset(alloc, key, *index, item, list, effects)
+        } => {
+            let (end, to) = (*end, *to);
+            let asked = Pushing { end, to, items };
+            pushes::push(key, &asked, list, effects)
         }
+        ListAsk::Pop { key, end, count } => pops::pop(key, *end, *count, list, effects),
+        ListAsk::LLen { .. } => Ok(telling::llen(list)),
+        ListAsk::LRange { first, last, .. } => telling::lrange(alloc, *first, *last, list),
+        ListAsk::LIndex { key: _, index } => telling::lindex(alloc, *index, list),
+        ListAsk::LSet { key, index, item } => edits::lset(key, *index, item, list, effects),
         ListAsk::LInsert {
             key,
             side,
             pivot,
             item,
-        } => edits::linsert(alloc, key, *side, pivot, item, list, effects),
-        ListAsk::LRem { key, count, item } => {
-            edits::lrem(alloc, key, *count, item, list, effects)
+        } => {
+            let side = *side;
+            let asked = Insertion { side, pivot, item };
+            edits::linsert(key, &asked, list, effects)
         }
-        ListAsk::LTrim { key, first, last } => {
-            edits::ltrim(alloc, key, *first, *last, list, effects)
-        }
+        ListAsk::LRem { key, count, item } => edits::lrem(key, *count, item, list, effects),
+        ListAsk::LTrim { key, first, last } => edits::ltrim(key, *first, *last, list, effects),
         ListAsk::LMove {
             from,
             to: _,
             taken,
             put,
-        } => moves::rotate(alloc, from, *taken, *put, list, effects),
+        } => moves::rotate(from, *taken, *put, list, effects),
         ListAsk::RPopLPush { from, to: _ } => {
-            moves::rotate(alloc, from, End::Right, End::Left, list, effects)
+            moves::rotate(from, End::Right, End::Left, list, effects)
         }
     }
 }

@@ -16,7 +16,6 @@ use std::alloc::{AllocError, Global};
 
 /// `LPOP`, `RPOP`
 pub fn pop(
-    alloc: Global,
     key: &Argument<'_>,
     end: End,
     count: Option<usize>,
@@ -28,14 +27,13 @@ pub fn pop(
         effects.old effects.new) }
 {
     match count {
-        None => pop_one(alloc, key, end, list, effects),
-        Some(most) => pop_some(alloc, key, end, most, list, effects),
+        None => pop_one(key, end, list, effects),
+        Some(most) => pop_some(key, end, most, list, effects),
     }
 }
 
 /// `LPOP` or `RPOP` without a count: the item at the end, or nil.
 fn pop_one(
-    alloc: Global,
     key: &Argument<'_>,
     end: End,
     list: Option<&ListValue>,
@@ -45,6 +43,7 @@ fn pop_one(
         Takes (pop_answer key.now end None (entry_with (option_copied list.entry))) (view r)
         effects.old effects.new) }
 {
+    let alloc = effects.alloc();
     let Some(list) = list else {
         return Ok(Reply::NullBulk);
     };
@@ -62,7 +61,6 @@ fn pop_one(
 
 /// `LPOP` or `RPOP` with a count: at most so many items from the end on, or nil where there is no key.
 fn pop_some(
-    alloc: Global,
     key: &Argument<'_>,
     end: End,
     most: usize,
@@ -73,6 +71,7 @@ fn pop_some(
         Takes (pop_answer key.now end (Some most) (entry_with (option_copied list.entry))) (view r)
         effects.old effects.new) }
 {
+    let alloc = effects.alloc();
     let Some(list) = list else {
         return Ok(Reply::NullArray);
     };

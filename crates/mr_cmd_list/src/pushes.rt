@@ -18,27 +18,33 @@ use mr_value::ListValue;
 use std::alloc::{AllocError, Global};
 use std::borrow::CowSlice;
 
+/// Items that are to come to an end of a list, and at which keys they may.
+#[derive(Drop)]
+pub struct Pushing<'w, 'a, 't> {
+    pub end: End,
+    pub to: PushTo,
+    pub items: &'w Words<'a, 't>,
+}
+
 /// `LPUSH`, `RPUSH`, `LPUSHX`, `RPUSHX`
 pub fn push(
-    alloc: Global,
     key: &Argument<'_>,
-    end: End,
-    to: PushTo,
-    items: &Words<'_, '_>,
+    asked: &Pushing<'_, '_, '_>,
     list: Option<&ListValue>,
     effects: &mut Effects,
 ) -> Result<Reply, AllocError>
     ensures { IfOk result (λ r.
-        Takes (push_answer key.now end to items.now (entry_with (option_copied list.entry)))
-        (view r) effects.old effects.new) }
+        Takes (push_answer key.now asked.now.end asked.now.to asked.now.items.now
+        (entry_with (option_copied list.entry))) (view r) effects.old effects.new) }
 {
-    let before = match (list, to) {
+    let items = asked.items.as_slice();
+    let before = match (list, asked.to) {
         (Some(list), _) => list.len(),
         (None, PushTo::AnyKey) => 0,
         (None, PushTo::ExistingKey) => return Ok(integer(0)),
     };
-    push_groups(alloc, key, end, items.as_slice(), effects)?;
-    Ok(integer((before + items.as_slice().len()) as i64))
+    push_groups(key, asked.end, items, effects)?;
+    Ok(integer((before + items.len()) as i64))
 }
 
 /// The most items that one effect has.
@@ -46,7 +52,6 @@ const MOST_ITEMS: usize = 64;
 
 /// Puts one effect for each group of items that come to an end of the list.
 fn push_groups(
-    alloc: Global,
     key: &Argument<'_>,
     end: End,
     items: &[CowSlice<'_, u8>],
@@ -55,6 +60,7 @@ fn push_groups(
     ensures { OnOk result (effects.new ≡
         effects.old ++ push_effects key.now end (cut (map cow_slice_items items.now))) }
 {
+    let alloc = effects.alloc();
     let mut start = 0;
     while start < items.len() {
         let next = items.len().min(start + MOST_ITEMS);

@@ -32,7 +32,6 @@ pub struct Sets<'d> {
 
 /// The sets at these keys, or none where one of them holds another kind. An expired key gets its DEL.
 pub fn look_at_all<'d>(
-    alloc: Global,
     held: &'d Dataset,
     keys: &Words<'_, '_>,
     given: Given,
@@ -46,9 +45,9 @@ pub fn look_at_all<'d>(
     ensures expired { IfOk result (λ _.
         effects.new ≡ effects.old ++ dels (expired given.now keys.now held.now)) }
 {
-    let found = find_all(alloc, held, keys, given, empty)?;
+    let found = find_all(effects.alloc(), held, keys, given, empty)?;
     if found.expired {
-        push_dels(alloc, held, keys, given, true, effects)?;
+        push_dels(held, keys, given, true, effects)?;
     }
     if found.other {
         return Ok(None);

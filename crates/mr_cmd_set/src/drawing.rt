@@ -128,7 +128,6 @@ fn one_bulk(alloc: Global, member: Option<&[u8]>) -> Result<Reply, AllocError>
 
 /// `SPOP`
 pub fn spop(
-    alloc: Global,
     key: &Argument<'_>,
     count: Option<usize>,
     word: u64,
@@ -139,14 +138,13 @@ pub fn spop(
         Makes (taking key.now count word set.now) (view r) effects.old effects.new) }
 {
     match count {
-        None => take_one(alloc, key, word, set, effects),
-        Some(count) => take_some(alloc, key, count, word, set, effects),
+        None => take_one(key, word, set, effects),
+        Some(count) => take_some(key, count, word, set, effects),
     }
 }
 
 /// `SPOP` without a count: the drawn member, which goes, or nil.
 fn take_one(
-    alloc: Global,
     key: &Argument<'_>,
     word: u64,
     set: &SetValue,
@@ -160,14 +158,13 @@ fn take_one(
     let Some(member) = draw_one(set, word) else {
         return Ok(Reply::NullBulk);
     };
-    push_member(alloc, Write::Remove, key, member, effects)?;
-    let reply = bulk(alloc, member)?;
+    push_member(Write::Remove, key, member, effects)?;
+    let reply = bulk(effects.alloc(), member)?;
     Ok(reply)
 }
 
 /// `SPOP` with a count: the drawn members, at most so many, which go.
 fn take_some(
-    alloc: Global,
     key: &Argument<'_>,
     count: usize,
     word: u64,
@@ -179,9 +176,10 @@ fn take_some(
         effects.old ++
         group_effects write.Remove key.now (as_set (drawn word count (map.keys set.now)))) }
 {
+    let alloc = effects.alloc();
     let drawn = draw(alloc, set, word, count)?;
     let members = in_order(alloc, drawn.items.as_slice())?;
-    push_groups(alloc, Write::Remove, key, &members, effects)?;
+    push_groups(Write::Remove, key, &members, effects)?;
     let reply = bulks_of(alloc, drawn.items.as_slice())?;
     Ok(reply)
 }

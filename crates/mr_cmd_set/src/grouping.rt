@@ -56,7 +56,6 @@ fn changes(write: Write, set: &SetValue, member: &[u8]) -> bool
 /// `SADD`, `SREM`: how many of the words change the set. The effects that write these are put behind those that are
 /// there.
 pub fn write_members(
-    alloc: Global,
     write: Write,
     key: &Argument<'_>,
     words: &Words<'_, '_>,
@@ -68,13 +67,12 @@ pub fn write_members(
     ensures effects { OnOk result (effects.new ≡
         effects.old ++ group_effects write key.now (changed_by write words.now set.now)) }
 {
-    let changed = push_changes(alloc, write, key, words, set, effects)?;
+    let changed = push_changes(write, key, words, set, effects)?;
     Ok(count(changed))
 }
 
 /// Effects that write those words that change the set, and how many these are.
 fn push_changes(
-    alloc: Global,
     write: Write,
     key: &Argument<'_>,
     words: &Words<'_, '_>,
@@ -87,16 +85,15 @@ fn push_changes(
         effects.old ++ group_effects write key.now (changed_by write words.now set.now)) }
 {
     if let [word] = words.as_slice() {
-        return push_change(alloc, write, key, word.as_slice(), set, effects);
+        return push_change(write, key, word.as_slice(), set, effects);
     }
-    let changed = changed_by(alloc, write, words, set)?;
-    push_groups(alloc, write, key, &changed, effects)?;
+    let changed = changed_by(effects.alloc(), write, words, set)?;
+    push_groups(write, key, &changed, effects)?;
     Ok(changed.len())
 }
 
 /// Puts the effect that writes one word, if that changes the set, and answers how many do. It puts no words in order.
 fn push_change(
-    alloc: Global,
     write: Write,
     key: &Argument<'_>,
     member: &[u8],
@@ -111,13 +108,12 @@ fn push_change(
     if !changes(write, set, member) {
         return Ok(0);
     }
-    push_member(alloc, write, key, member, effects)?;
+    push_member(write, key, member, effects)?;
     Ok(1)
 }
 
 /// The effect that writes one member.
 pub fn push_member(
-    alloc: Global,
     write: Write,
     key: &Argument<'_>,
     member: &[u8],
@@ -126,6 +122,7 @@ pub fn push_member(
     ensures { OnOk result (effects.new ≡
         effects.old ++ group_effect write key.now (member.now ∷ []) ∷ []) }
 {
+    let alloc = effects.alloc();
     let mut members = EffectWords::new(alloc);
     members.push(Word::copied(alloc, member)?)?;
     effects.push(group_effect(alloc, write, key, members)?)?;
@@ -134,7 +131,6 @@ pub fn push_member(
 
 /// Effects that write these members, in byte order.
 pub fn push_groups(
-    alloc: Global,
     write: Write,
     key: &Argument<'_>,
     members: &SliceMap<'_, ()>,
@@ -142,6 +138,7 @@ pub fn push_groups(
 ) -> Result<(), AllocError>
     ensures { OnOk result (effects.new ≡ effects.old ++ group_effects write key.now members.now) }
 {
+    let alloc = effects.alloc();
     let mut group = EffectWords::new(alloc);
     for (member, _) in members.iter() {
         group.push(Word::copied(alloc, member)?)?;

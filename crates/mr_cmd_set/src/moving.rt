@@ -13,22 +13,29 @@ use mr_cmd_shared::{Effects, count, wrong_kind};
 use mr_data::{Effect, Entry};
 use mr_resp::Reply;
 use mr_value::SetValue;
-use std::alloc::{AllocError, Global};
+use std::alloc::AllocError;
+
+/// A member that is to go from the set at one key into the set at another.
+#[derive(Drop)]
+pub struct Move<'w, 'a> {
+    pub from: &'w Argument<'a>,
+    pub to: &'w Argument<'a>,
+    pub member: &'w Argument<'a>,
+}
 
 /// The answer, from the live entries at the source and at the target.
 pub fn moved(
-    alloc: Global,
-    from: &Argument<'_>,
-    to: &Argument<'_>,
-    member: &Argument<'_>,
+    asked: &Move<'_, '_>,
     source: Option<&Entry>,
     target: Option<&Entry>,
     effects: &mut Effects,
 ) -> Result<Reply, AllocError>
-    ensures { IfOk result (λ r. (m : Map) → get m from.now ≡ option_copied source.entry →
-        get m to.now ≡ option_copied target.entry →
-        Gives (smove from.now to.now member.now m) (view r) effects.old effects.new) }
+    ensures { IfOk result (λ r. (m : Map) → get m asked.now.from.now ≡ option_copied source.entry →
+        get m asked.now.to.now ≡ option_copied target.entry →
+        Gives (smove asked.now.from.now asked.now.to.now asked.now.member.now m) (view r)
+        effects.old effects.new) }
 {
+    let alloc = effects.alloc();
     if source.is_none() {
         return Ok(count(0));
     }
@@ -39,14 +46,14 @@ pub fn moved(
     if set_at(target, &empty).is_none() {
         return Ok(wrong_kind());
     }
-    if !set.contains(member.as_slice()) {
+    if !set.contains(asked.member.as_slice()) {
         return Ok(count(0));
     }
-    if !same(from, to) {
+    if !same(asked.from, asked.to) {
         effects.push(Effect::MoveMember {
-            from: Word::copied(alloc, from.as_slice())?,
-            to: Word::copied(alloc, to.as_slice())?,
-            member: Word::copied(alloc, member.as_slice())?,
+            from: Word::copied(alloc, asked.from.as_slice())?,
+            to: Word::copied(alloc, asked.to.as_slice())?,
+            member: Word::copied(alloc, asked.member.as_slice())?,
         })?;
     }
     Ok(count(1))

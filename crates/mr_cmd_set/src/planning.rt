@@ -15,7 +15,7 @@ ghost use Rattle.mr_cmd_set.specs.SetCommands.{command, RestsOn, is_on_one_key, 
 use crate::combining::{combined, look_at_all};
 use crate::finding::set_at;
 use crate::grouping::{Write, write_members};
-use crate::moving::{moved, same};
+use crate::moving::{Move, moved, same};
 use crate::set_ask::{SetAsk, SetOperation};
 use crate::{drawing, telling};
 use mr_arguments::{Argument, Words};
@@ -59,13 +59,12 @@ fn planned(
     ensures rests { RestsOn ask.now held.now }
 {
     let mut effects = Effects::new(alloc);
-    let reply = reply_to(alloc, held, ask, given, &mut effects)?;
+    let reply = reply_to(held, ask, given, &mut effects)?;
     Ok(effects.into_plan(reply))
 }
 
 /// What a command is answered. Its effects are put behind those that are there.
 fn reply_to(
-    alloc: Global,
     held: &Dataset,
     ask: &SetAsk<'_, '_>,
     given: Given,
@@ -76,26 +75,24 @@ fn reply_to(
     ensures rests { RestsOn ask.now held.now }
 {
     match ask {
-        SetAsk::SAdd { key, .. } => at_key(alloc, held, key, ask, given, effects),
-        SetAsk::SRem { key, .. } => at_key(alloc, held, key, ask, given, effects),
-        SetAsk::SIsMember { key, .. } => at_key(alloc, held, key, ask, given, effects),
-        SetAsk::SMIsMember { key, .. } => at_key(alloc, held, key, ask, given, effects),
-        SetAsk::SMembers { key } => at_key(alloc, held, key, ask, given, effects),
-        SetAsk::SCard { key } => at_key(alloc, held, key, ask, given, effects),
-        SetAsk::SPop { key, .. } => at_key(alloc, held, key, ask, given, effects),
-        SetAsk::SRandMember { key, .. } => at_key(alloc, held, key, ask, given, effects),
+        SetAsk::SAdd { key, .. } => at_key(held, key, ask, given, effects),
+        SetAsk::SRem { key, .. } => at_key(held, key, ask, given, effects),
+        SetAsk::SIsMember { key, .. } => at_key(held, key, ask, given, effects),
+        SetAsk::SMIsMember { key, .. } => at_key(held, key, ask, given, effects),
+        SetAsk::SMembers { key } => at_key(held, key, ask, given, effects),
+        SetAsk::SCard { key } => at_key(held, key, ask, given, effects),
+        SetAsk::SPop { key, .. } => at_key(held, key, ask, given, effects),
+        SetAsk::SRandMember { key, .. } => at_key(held, key, ask, given, effects),
         SetAsk::SMove { from, to, member } => {
-            smove(alloc, held, from, to, member, given, effects)
+            let asked = Move { from, to, member };
+            smove(held, &asked, given, effects)
         }
-        SetAsk::Combine { operation, keys } => combine(
-            alloc, held, *operation, keys, given, effects,
-        ),
+        SetAsk::Combine { operation, keys } => combine(held, *operation, keys, given, effects),
     }
 }
 
 /// What a command on one key is answered. Its effects are put behind those that are there.
 fn at_key(
-    alloc: Global,
     held: &Dataset,
     key: &Argument<'_>,
     ask: &SetAsk<'_, '_>,
@@ -108,18 +105,17 @@ fn at_key(
         (view r) effects.old effects.new) }
     ensures kept { IsDataset held.now }
 {
-    let live_entry = look(alloc, held, key, given, effects)?;
-    let empty = SetValue::new(alloc);
+    let live_entry = look(held, key, given, effects)?;
+    let empty = SetValue::new(effects.alloc());
     let Some(set) = set_at(live_entry, &empty) else {
         return Ok(wrong_kind());
     };
-    change(alloc, ask, set, given.word(), effects)
+    change(ask, set, given.word(), effects)
 }
 
 /// What a command on one key is answered by the set there, and by a random word. Its effects are put behind those that
 /// are there.
 fn change(
-    alloc: Global,
     ask: &SetAsk<'_, '_>,
     set: &SetValue,
     word: u64,
@@ -129,18 +125,17 @@ fn change(
     ensures { IfOk result (λ r.
         Makes (change ask.now word set.now) (view r) effects.old effects.new) }
 {
+    let alloc = effects.alloc();
     match ask {
-        SetAsk::SAdd { key, members } => {
-            write_members(alloc, Write::Add, key, members, set, effects)
-        }
+        SetAsk::SAdd { key, members } => write_members(Write::Add, key, members, set, effects),
         SetAsk::SRem { key, members } => {
-            write_members(alloc, Write::Remove, key, members, set, effects)
+            write_members(Write::Remove, key, members, set, effects)
         }
         SetAsk::SIsMember { key: _, member } => Ok(telling::sismember(member, set)),
         SetAsk::SMIsMember { key: _, members } => telling::smismember(alloc, members, set),
         SetAsk::SMembers { key: _ } => telling::smembers(alloc, set),
         SetAsk::SCard { key: _ } => Ok(telling::scard(set)),
-        SetAsk::SPop { key, count } => drawing::spop(alloc, key, *count, word, set, effects),
+        SetAsk::SPop { key, count } => drawing::spop(key, *count, word, set, effects),
         SetAsk::SRandMember { key: _, count } => drawing::srandmember(alloc, *count, word, set),
         SetAsk::SMove { .. } | SetAsk::Combine { .. } => unreachable!(),
     }
@@ -148,32 +143,28 @@ fn change(
 
 /// What `SMOVE` is answered. Its effects are put behind those that are there.
 fn smove(
-    alloc: Global,
     held: &Dataset,
-    from: &Argument<'_>,
-    to: &Argument<'_>,
-    member: &Argument<'_>,
+    asked: &Move<'_, '_>,
     given: Given,
     effects: &mut Effects,
 ) -> Result<Reply, AllocError>
     ensures reply { IfOk result (λ r.
-        Plans (command (asks.SMove from.now to.now member.now) given.word) given.now held.now
-        (view r) effects.old effects.new) }
+        Plans (command (asks.SMove asked.now.from.now asked.now.to.now asked.now.member.now)
+        given.word) given.now held.now (view r) effects.old effects.new) }
     ensures kept { IsDataset held.now }
 {
-    let source = look(alloc, held, from, given, effects)?;
-    let target = if same(from, to) {
+    let source = look(held, asked.from, given, effects)?;
+    let target = if same(asked.from, asked.to) {
         source
     } else {
-        look(alloc, held, to, given, effects)?
+        look(held, asked.to, given, effects)?
     };
-    moved(alloc, from, to, member, source, target, effects)
+    moved(asked, source, target, effects)
 }
 
 /// What `SINTER`, `SUNION` and `SDIFF` are answered. The DELs of expired keys are put behind the effects that are
 /// there.
 fn combine(
-    alloc: Global,
     held: &Dataset,
     operation: SetOperation,
     keys: &Words<'_, '_>,
@@ -184,8 +175,9 @@ fn combine(
         Plans (command (asks.Combine operation keys.now) given.word) given.now held.now (view r)
         effects.old effects.new) }
 {
+    let alloc = effects.alloc();
     let empty = SetValue::new(alloc);
-    match look_at_all(alloc, held, keys, given, &empty, effects)? {
+    match look_at_all(held, keys, given, &empty, effects)? {
         Some(sets) => combined(alloc, operation, sets),
         None => Ok(wrong_kind()),
     }

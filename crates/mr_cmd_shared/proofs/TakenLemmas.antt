@@ -8,8 +8,8 @@ use Rattle.std.specs.declared.cmp.Ordering.{Ordering}
 use Rattle.std.specs.Str.{bytes_eq}
 use Rattle.mr_keyspace.proofs.Maps.{same_key}
 use Rattle.mr_bytes.proofs.Numbers.{same_bytes, bytes_agree}
-use Rattle.mr_map.specs.Bytes.{bytes_cmp, Bytes}
-use Rattle.mr_cmd_shared.specs.Taken.{lent, has, is_key}
+use Rattle.mr_map.specs.Bytes.{bytes_cmp, lent, Bytes}
+use Rattle.mr_cmd_shared.specs.Taken.{has, is_key}
 
 -- the order of references is that of what they point to
 abbrev pub by_bytes : Bor (List ℕ) → Bor (List ℕ) → Ordering

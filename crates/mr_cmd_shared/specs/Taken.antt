@@ -5,10 +5,6 @@ use Rattle.std.specs.Ordering.{eq_by_cmp}
 use Rattle.std.specs.Borrow.{Bor}
 use Rattle.mr_map.specs.Bytes.{Bytes, bytes_cmp}
 
--- the bytes of each
-abbrev pub lent : List (Bor (List ℕ)) → List Bytes
-lent ks = map (λ (k : Bor (List ℕ)). k.now) ks
-
 abbrev pub is_key : Bytes → Bytes → Bool
 is_key q k = eq_by_cmp bytes_cmp q k
 

@@ -31,6 +31,11 @@ impl Effects {
         }
     }
 
+    /// Where they take memory: a command takes its own there too.
+    pub fn alloc(&self) -> Global {
+        *self.items.allocator()
+    }
+
     /// Puts an effect behind the others.
     pub fn push(&mut self, effect: Effect<'static>) -> Result<(), AllocError>
         ensures { OnOk result (self.new ≡ self.old ++ effect.entry ∷ []) }

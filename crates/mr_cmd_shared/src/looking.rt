@@ -9,7 +9,7 @@ use crate::taken::Taken;
 use mr_arguments::{Argument, Words};
 use mr_bytes::Word;
 use mr_data::{Dataset, Effect, Entry, Given};
-use std::alloc::{AllocError, Global};
+use std::alloc::AllocError;
 
 /// Whether an entry with this deadline is expired.
 fn is_expired(now: i64, deadline: Option<i64>) -> bool
@@ -35,7 +35,6 @@ pub fn see<'d>(held: &'d Dataset, key: &[u8], given: Given) -> (Option<&'d Entry
 
 /// The live entry at a key. An expired key gets its DEL, which alone takes memory. What the dataset keeps is known from here on.
 pub fn look<'d>(
-    alloc: Global,
     held: &'d Dataset,
     key: &Argument<'_>,
     given: Given,
@@ -55,7 +54,7 @@ pub fn look<'d>(
         return Ok(Some(entry));
     }
     effects.push(Effect::Del {
-        key: Word::copied(alloc, key.as_slice())?,
+        key: Word::copied(effects.alloc(), key.as_slice())?,
     })?;
     Ok(None)
 }
@@ -81,7 +80,6 @@ fn is_stored(now: i64, expired: bool, entry: Option<&Entry>) -> bool
 /// Puts the DEL of one key, if it is there and expired as asked, and answers how many that makes. It takes no list of
 /// the keys that were taken.
 fn push_del(
-    alloc: Global,
     held: &Dataset,
     key: &[u8],
     given: Given,
@@ -98,14 +96,13 @@ fn push_del(
         return Ok(0);
     }
     effects.push(Effect::Del {
-        key: Word::copied(alloc, key)?,
+        key: Word::copied(effects.alloc(), key)?,
     })?;
     Ok(1)
 }
 
 /// A DEL for each of the keys that are stored and expired, or stored and not expired, and how many these are.
 pub fn push_dels(
-    alloc: Global,
     held: &Dataset,
     keys: &Words<'_, '_>,
     given: Given,
@@ -123,9 +120,10 @@ pub fn push_dels(
         return Ok(0);
     }
     if let [only] = keys.as_slice() {
-        return push_del(alloc, held, only.as_slice(), given, expired, effects);
+        return push_del(held, only.as_slice(), given, expired, effects);
     }
     let now = given.now();
+    let alloc = effects.alloc();
     let mut taken = Taken::new(alloc);
     for word in keys.as_slice() {
         let key = word.as_slice();

@@ -14,7 +14,7 @@ pub struct Taken<'a> {
 
 impl<'a> Model for Taken<'a> {
     ghost use Rattle.std.specs.Prelude.{List, ℕ};
-    ghost use Rattle.mr_cmd_shared.specs.Taken.{lent};
+    ghost use Rattle.mr_map.specs.Bytes.{lent};
 
     ghost Value = { List (List ℕ) };
 

@@ -15,7 +15,7 @@ use mr_cmd_shared::{Effects, count, integer, wrong_kind};
 use mr_data::{Effect, Entry, Value};
 use mr_resp::Reply;
 use mr_value::CompactBytes;
-use std::alloc::{AllocError, Global};
+use std::alloc::AllocError;
 
 /// The text at a key: this one where nothing is there. None where the key holds another kind.
 fn text_at<'t>(none: &'t CompactBytes, live_entry: Option<&'t Entry>) -> Option<&'t CompactBytes>
@@ -32,7 +32,6 @@ fn text_at<'t>(none: &'t CompactBytes, live_entry: Option<&'t Entry>) -> Option<
 
 /// `APPEND`. The text that is there is not copied.
 pub fn append(
-    alloc: Global,
     key: &Argument<'_>,
     more: &Argument<'_>,
     live_entry: Option<&Entry>,
@@ -52,6 +51,7 @@ pub fn append(
     if is_same(more.as_slice(), live_entry) {
         return Ok(count(text.as_slice().len()));
     }
+    let alloc = effects.alloc();
     effects.push(Effect::Append {
         key: Word::copied(alloc, key.as_slice())?,
         value: Word::copied(alloc, more.as_slice())?,
@@ -68,7 +68,6 @@ fn is_same(more: &[u8], live_entry: Option<&Entry>) -> bool
 
 /// `SETRANGE`. The text that is there is not copied.
 pub fn setrange(
-    alloc: Global,
     key: &Argument<'_>,
     offset: usize,
     part: &Argument<'_>,
@@ -92,6 +91,7 @@ pub fn setrange(
     if holds_part(text.as_slice(), offset, part.as_slice()) {
         return Ok(count(text.as_slice().len()));
     }
+    let alloc = effects.alloc();
     effects.push(Effect::SetRange {
         key: Word::copied(alloc, key.as_slice())?,
         offset: offset as i64,
@@ -141,7 +141,6 @@ fn number_text<'t>(live_entry: Option<&'t Entry>) -> Option<&'t [u8]>
 
 /// `INCR`, `DECR`, `INCRBY`, `DECRBY`
 pub fn increase(
-    alloc: Global,
     key: &Argument<'_>,
     by: i64,
     live_entry: Option<&Entry>,
@@ -164,7 +163,7 @@ pub fn increase(
         return Ok(integer(sum));
     }
     effects.push(Effect::Increase {
-        key: Word::copied(alloc, key.as_slice())?,
+        key: Word::copied(effects.alloc(), key.as_slice())?,
         by,
     })?;
     Ok(integer(sum))

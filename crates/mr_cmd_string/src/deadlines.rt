@@ -38,7 +38,7 @@ impl NewDeadline {
     {
         match self {
             NewDeadline::Endless => None,
-            NewDeadline::Kept => deadline_of(live_entry),
+            NewDeadline::Kept => kept_deadline(live_entry),
             NewDeadline::At(deadline) => Some(deadline),
         }
     }
@@ -66,8 +66,8 @@ impl NewDeadline {
     }
 }
 
-/// The deadline of a key, in milliseconds, if it is there and has one.
-fn deadline_of(live_entry: Option<&Entry>) -> Option<i64>
+/// The deadline that a key has and keeps, in milliseconds, if it is there and has one.
+fn kept_deadline(live_entry: Option<&Entry>) -> Option<i64>
     ensures { result ≡ deadline_of (option_copied live_entry.entry) }
 {
     match live_entry {

@@ -87,13 +87,12 @@ fn planned(
         IsPlan (command ask.now given.now) given.now held.now (view p.reply) p.effects.items) }
 {
     let mut effects = Effects::new(alloc);
-    let reply = reply_to(alloc, held, ask, given, &mut effects)?;
+    let reply = reply_to(held, ask, given, &mut effects)?;
     Ok(effects.into_plan(reply))
 }
 
 /// What a command is answered. Its effects are put behind those that are there.
 fn reply_to(
-    alloc: Global,
     held: &Dataset,
     ask: &TextAsk<'_, '_>,
     given: Given,
@@ -114,16 +113,15 @@ fn reply_to(
         | TextAsk::GetDel { key }
         | TextAsk::Append { key, .. }
         | TextAsk::SetRange { key, .. }
-        | TextAsk::Increase { key, .. } => at_key(alloc, held, key, ask, given, effects),
-        TextAsk::MGet { keys } => mget(alloc, held, keys, given, effects),
-        TextAsk::MSet { pairs } => mset(alloc, held, pairs, given, effects),
-        TextAsk::MSetNx { pairs } => msetnx(alloc, held, pairs, given, effects),
+        | TextAsk::Increase { key, .. } => at_key(held, key, ask, given, effects),
+        TextAsk::MGet { keys } => mget(held, keys, given, effects),
+        TextAsk::MSet { pairs } => mset(held, pairs, given, effects),
+        TextAsk::MSetNx { pairs } => msetnx(held, pairs, given, effects),
     }
 }
 
 /// What a command on one key is answered. Its effects are put behind those that are there.
 fn at_key(
-    alloc: Global,
     held: &Dataset,
     key: &Argument<'_>,
     ask: &TextAsk<'_, '_>,
@@ -135,13 +133,12 @@ fn at_key(
         Plans (on_key key.now (answer_of ask.now given.now)) given.now held.now (view r) effects.old
         effects.new) }
 {
-    let live_entry = look(alloc, held, key, given, effects)?;
-    answer_of(alloc, ask, live_entry, given, effects)
+    let live_entry = look(held, key, given, effects)?;
+    answer_of(ask, live_entry, given, effects)
 }
 
 /// What a command on one key is answered by what that holds. Its effects are put behind those that are there.
 fn answer_of(
-    alloc: Global,
     ask: &TextAsk<'_, '_>,
     live_entry: Option<&Entry>,
     given: Given,
@@ -153,7 +150,7 @@ fn answer_of(
         effects.new) }
 {
     match ask {
-        TextAsk::Get { .. } => get(alloc, live_entry),
+        TextAsk::Get { .. } => get(effects.alloc(), live_entry),
         TextAsk::Set {
             key,
             value,
@@ -162,22 +159,24 @@ fn answer_of(
             lifetime,
         } => {
             let rules = SetRules::said(*condition, *reply, *lifetime, given);
-            set(alloc, key, value, rules, live_entry, effects)
+            set(key, value, rules, live_entry, effects)
         }
         TextAsk::SetEx { key, value, .. } | TextAsk::PSetEx { key, value, .. } => {
             let rules = SetRules::said(None, SetReply::Done, lifetime_of(ask), given);
-            set(alloc, key, value, rules, live_entry, effects)
+            set(key, value, rules, live_entry, effects)
         }
         TextAsk::StrLen { .. } => Ok(strlen(live_entry)),
-        TextAsk::GetRange { first, last, .. } => getrange(alloc, *first, *last, live_entry),
-        TextAsk::SetNx { key, value } => setnx(alloc, key, value, live_entry, effects),
-        TextAsk::GetSet { key, value } => getset(alloc, key, value, live_entry, effects),
-        TextAsk::GetDel { key } => getdel(alloc, key, live_entry, effects),
-        TextAsk::Append { key, value } => append(alloc, key, value, live_entry, effects),
-        TextAsk::SetRange { key, offset, value } => {
-            setrange(alloc, key, *offset, value, live_entry, effects)
+        TextAsk::GetRange { first, last, .. } => {
+            getrange(effects.alloc(), *first, *last, live_entry)
         }
-        TextAsk::Increase { key, by } => increase(alloc, key, by.number(), live_entry, effects),
+        TextAsk::SetNx { key, value } => setnx(key, value, live_entry, effects),
+        TextAsk::GetSet { key, value } => getset(key, value, live_entry, effects),
+        TextAsk::GetDel { key } => getdel(key, live_entry, effects),
+        TextAsk::Append { key, value } => append(key, value, live_entry, effects),
+        TextAsk::SetRange { key, offset, value } => {
+            setrange(key, *offset, value, live_entry, effects)
+        }
+        TextAsk::Increase { key, by } => increase(key, by.number(), live_entry, effects),
         _ => unreachable!(),
     }
 }

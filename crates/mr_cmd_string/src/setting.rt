@@ -15,7 +15,7 @@ use mr_bytes::Word;
 use mr_cmd_shared::{Effects, bulk, count, done, wrong_kind};
 use mr_data::{Effect, Entry, Given, Value};
 use mr_resp::Reply;
-use std::alloc::{AllocError, Global};
+use std::alloc::AllocError;
 
 /// What a `SET` is told besides its key and its text.
 #[derive(Clone, Copy)]
@@ -46,7 +46,6 @@ impl SetRules {
 
 /// `SET`
 pub fn set(
-    alloc: Global,
     key: &Argument<'_>,
     text: &Argument<'_>,
     rules: SetRules,
@@ -58,14 +57,13 @@ pub fn set(
         (option_copied live_entry.entry)) (view r) effects.old effects.new) }
 {
     match rules.reply {
-        SetReply::Done => set_and_say(alloc, key, text, rules, live_entry, effects),
-        SetReply::Before => set_and_get(alloc, key, text, rules, live_entry, effects),
+        SetReply::Done => set_and_say(key, text, rules, live_entry, effects),
+        SetReply::Before => set_and_get(key, text, rules, live_entry, effects),
     }
 }
 
 /// What `SET` without `GET` is answered: whether the key was set. Its effect is put behind those that are there.
 fn set_and_say(
-    alloc: Global,
     key: &Argument<'_>,
     text: &Argument<'_>,
     rules: SetRules,
@@ -79,21 +77,16 @@ fn set_and_say(
     if !allows(rules.condition, live_entry) {
         return Ok(Reply::NullBulk);
     }
-    put(
-        alloc,
-        key,
-        text,
-        rules.deadline,
-        done(),
-        live_entry,
-        effects,
-    )
+    let text = NewText {
+        word: text,
+        deadline: rules.deadline,
+    };
+    put(key, text, done(), live_entry, effects)
 }
 
 /// What `SET` with `GET` is answered: the text that was there before, or a refusal where the key holds another kind.
 /// Its effect is put behind those that are there.
 fn set_and_get(
-    alloc: Global,
     key: &Argument<'_>,
     text: &Argument<'_>,
     rules: SetRules,
@@ -107,24 +100,19 @@ fn set_and_get(
     if holds_other(live_entry) {
         return Ok(wrong_kind());
     }
-    let before = get(alloc, live_entry)?;
+    let before = get(effects.alloc(), live_entry)?;
     if !allows(rules.condition, live_entry) {
         return Ok(before);
     }
-    put(
-        alloc,
-        key,
-        text,
-        rules.deadline,
-        before,
-        live_entry,
-        effects,
-    )
+    let text = NewText {
+        word: text,
+        deadline: rules.deadline,
+    };
+    put(key, text, before, live_entry, effects)
 }
 
 /// `SETNX`
 pub fn setnx(
-    alloc: Global,
     key: &Argument<'_>,
     text: &Argument<'_>,
     live_entry: Option<&Entry>,
@@ -137,20 +125,15 @@ pub fn setnx(
     if live_entry.is_some() {
         return Ok(count(0));
     }
-    put(
-        alloc,
-        key,
-        text,
-        NewDeadline::Endless,
-        count(1),
-        live_entry,
-        effects,
-    )
+    let text = NewText {
+        word: text,
+        deadline: NewDeadline::Endless,
+    };
+    put(key, text, count(1), live_entry, effects)
 }
 
 /// `GETSET`
 pub fn getset(
-    alloc: Global,
     key: &Argument<'_>,
     text: &Argument<'_>,
     live_entry: Option<&Entry>,
@@ -165,12 +148,11 @@ pub fn getset(
         reply: SetReply::Before,
         deadline: NewDeadline::Endless,
     };
-    set_and_get(alloc, key, text, rules, live_entry, effects)
+    set_and_get(key, text, rules, live_entry, effects)
 }
 
 /// `GETDEL`
 pub fn getdel(
-    alloc: Global,
     key: &Argument<'_>,
     live_entry: Option<&Entry>,
     effects: &mut Effects,
@@ -183,21 +165,17 @@ pub fn getdel(
         return Ok(Reply::NullBulk);
     };
     match &entry.value {
-        Value::Text(text) => take(alloc, key, text.as_slice(), effects),
+        Value::Text(text) => take(key, text.as_slice(), effects),
         Value::Hash(_) | Value::List(_) | Value::Set(_) | Value::SortedSet(_) => Ok(wrong_kind()),
     }
 }
 
 /// The text is answered, and the key goes. Its DEL is put behind the effects that are there.
-fn take(
-    alloc: Global,
-    key: &Argument<'_>,
-    text: &[u8],
-    effects: &mut Effects,
-) -> Result<Reply, AllocError>
+fn take(key: &Argument<'_>, text: &[u8], effects: &mut Effects) -> Result<Reply, AllocError>
     ensures reply { IfOk result (λ r. view r ≡ bytes text.now) }
     ensures effects { OnOk result (effects.new ≡ effects.old ++ effect.Del key.now ∷ []) }
 {
+    let alloc = effects.alloc();
     effects.push(Effect::Del {
         key: Word::copied(alloc, key.as_slice())?,
     })?;
@@ -205,23 +183,29 @@ fn take(
     Ok(reply)
 }
 
+/// A text that a key is to get, with what becomes of the key's deadline.
+#[derive(Clone, Copy)]
+struct NewText<'t> {
+    word: &'t Argument<'t>,
+    deadline: NewDeadline,
+}
+
 /// The key gets the text with its deadline, unless it has both, and this is answered. The effect is put behind those
 /// that are there.
 fn put(
-    alloc: Global,
     key: &Argument<'_>,
-    text: &Argument<'_>,
-    deadline: NewDeadline,
+    text: NewText<'_>,
     reply: Reply,
     live_entry: Option<&Entry>,
     effects: &mut Effects,
 ) -> Result<Reply, AllocError>
     ensures { IfOk result (λ r.
-        Takes (put key.now text.now deadline (view reply) (option_copied live_entry.entry)) (view r)
-        effects.old effects.new) }
+        Takes (put key.now text.entry.word.now text.entry.deadline (view reply)
+        (option_copied live_entry.entry)) (view r) effects.old effects.new) }
 {
-    if !holds_until(text.as_slice(), deadline.until(live_entry), live_entry) {
-        effects.push(deadline.effect(alloc, key, text)?)?;
+    let deadline = text.deadline.until(live_entry);
+    if !holds_until(text.word.as_slice(), deadline, live_entry) {
+        effects.push(text.deadline.effect(effects.alloc(), key, text.word)?)?;
     }
     Ok(reply)
 }

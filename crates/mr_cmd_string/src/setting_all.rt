@@ -20,7 +20,6 @@ use std::borrow::CowSlice;
 
 /// `MSET`
 pub fn mset(
-    alloc: Global,
     held: &Dataset,
     pairs: &WordPairs<'_, '_>,
     given: Given,
@@ -30,10 +29,11 @@ pub fn mset(
         Plans (on_keys (names pairs.now) (mset pairs.now)) given.now held.now (view r) effects.old
         effects.new) }
 {
+    let alloc = effects.alloc();
     let values = last_texts(alloc, pairs)?;
     let changed = find_changed(alloc, held, &values, given)?;
     if changed.expired {
-        push_expired(alloc, held, pairs, given, effects)?;
+        push_expired(held, pairs, given, effects)?;
     }
     push_texts(changed.texts, effects)?;
     Ok(done())
@@ -41,7 +41,6 @@ pub fn mset(
 
 /// `MSETNX`
 pub fn msetnx(
-    alloc: Global,
     held: &Dataset,
     pairs: &WordPairs<'_, '_>,
     given: Given,
@@ -53,11 +52,12 @@ pub fn msetnx(
 {
     let (there, expired) = find_any(held, pairs, given);
     if expired {
-        push_expired(alloc, held, pairs, given, effects)?;
+        push_expired(held, pairs, given, effects)?;
     }
     if there {
         return Ok(count(0));
     }
+    let alloc = effects.alloc();
     let values = last_texts(alloc, pairs)?;
     let texts = copied(alloc, &values)?;
     push_texts(texts, effects)?;
@@ -149,7 +149,6 @@ fn copied(
 
 /// Puts a DEL for each of the keys that is expired, once.
 fn push_expired(
-    alloc: Global,
     held: &Dataset,
     pairs: &WordPairs<'_, '_>,
     given: Given,
@@ -158,12 +157,12 @@ fn push_expired(
     ensures { OnOk result (effects.new ≡
         effects.old ++ dels (expired given.now (names pairs.now) held.now)) }
 {
-    let mut keys = Vec::new(alloc);
+    let mut keys = Vec::new(effects.alloc());
     for (key, _) in pairs.iter() {
         keys.push(CowSlice::Borrowed(key))?;
     }
     let keys = Words::new(keys.as_slice());
-    push_dels(alloc, held, &keys, given, true, effects)?;
+    push_dels(held, &keys, given, true, effects)?;
     Ok(())
 }
 

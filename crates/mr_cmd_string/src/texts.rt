@@ -71,7 +71,6 @@ fn part(alloc: Global, text: &[u8], first: i64, last: i64) -> Result<Reply, Allo
 
 /// `MGET`. The DELs of expired keys are put behind the effects that are there.
 pub fn mget(
-    alloc: Global,
     held: &Dataset,
     keys: &Words<'_, '_>,
     given: Given,
@@ -81,8 +80,8 @@ pub fn mget(
         Plans (on_keys keys.now (told_texts keys.now)) given.now held.now (view r) effects.old
         effects.new) }
 {
-    push_dels(alloc, held, keys, given, true, effects)?;
-    texts_at(alloc, held, keys, given)
+    push_dels(held, keys, given, true, effects)?;
+    texts_at(effects.alloc(), held, keys, given)
 }
 
 /// The text at each key, or nil where it isn't there or holds another kind.

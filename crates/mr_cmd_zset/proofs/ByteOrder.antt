@@ -14,9 +14,9 @@ use Rattle.std.proofs.lemmas.List.Kept.{IsStrictlySortedBy-dedup}
 use Rattle.std.proofs.lemmas.List.Sorted.{IsPermutation-map, list_any-IsPermutation}
 use Rattle.std.proofs.lemmas.Map.Keys.{sorted_head, sorted_tail}
 use Rattle.std.proofs.lemmas.Map.Lookups.{exact_bytes}
-use Rattle.mr_map.specs.Bytes.{Bytes, bytes_cmp}
+use Rattle.mr_map.specs.Bytes.{Bytes, bytes_cmp, lent}
 use Rattle.mr_map.proofs.Domains.{one_unit}
-use Rattle.mr_cmd_shared.specs.Taken.{lent, is_key, has}
+use Rattle.mr_cmd_shared.specs.Taken.{is_key, has}
 use Rattle.mr_keyspace.proofs.Maps.{same_key}
 use Rattle.mr_cmd_zset.specs.Removing.{as_set}
 use Rattle.mr_cmd_zset.proofs.Removals.{contains_as_set}

@@ -9,7 +9,7 @@ use Rattle.std.specs.FinMap.{len}
 use Rattle.mr_map.specs.Bytes.{Bytes}
 use Rattle.mr_bytes.specs.Window.{window_of, windowed}
 use Rattle.mr_zset.specs.declared.pair.Pair.{Pair}
-use Rattle.mr_zset.specs.Pairs.{pairs_of, shown}
+use Rattle.mr_zset.specs.Pairs.{pairs_of, lent_pair}
 use Rattle.mr_zset_options.specs.declared.choices.Order.{Order}
 use Rattle.mr_zset_options.specs.declared.choices.Order.TheVariants.{Ascending, Descending}
 use Rattle.mr_zset_options.specs.declared.choices.RangeReply.TheVariants.{Members, WithScores}
@@ -105,10 +105,10 @@ scored_part limit order pairs count a b s e long turned cut = turned pairs long 
 
 -- how many replies there are
 
-pub one_each : (ps : List Pair) → length (flat_map (pair_replies Members) (map shown ps)) ≡ length ps
+pub one_each : (ps : List Pair) → length (flat_map (pair_replies Members) (map lent_pair ps)) ≡ length ps
 one_each [] = refl
 one_each (p ∷ ps) = ap suc (one_each ps)
 
-pub two_each : (ps : List Pair) → length (flat_map (pair_replies WithScores) (map shown ps)) ≡ 2 * length ps
+pub two_each : (ps : List Pair) → length (flat_map (pair_replies WithScores) (map lent_pair ps)) ≡ 2 * length ps
 two_each [] = refl
-two_each (p ∷ ps) = let rest : length (flat_map (pair_replies WithScores) (map shown ps)) ≡ 2 * length ps = two_each ps in omega arith
+two_each (p ∷ ps) = let rest : length (flat_map (pair_replies WithScores) (map lent_pair ps)) ≡ 2 * length ps = two_each ps in omega arith

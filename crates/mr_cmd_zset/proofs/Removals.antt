@@ -11,7 +11,7 @@ use Rattle.std.specs.FinMap.Entries.{put}
 use Rattle.std.proofs.lemmas.List.{length-map, map-append, nil_from_length}
 use Rattle.std.proofs.lemmas.Cmp.{nat_list_cmp_total}
 use Rattle.std.proofs.Math.Bool.{or-false}
-use Rattle.mr_map.specs.Bytes.{Bytes, ByteMap, bytes_cmp}
+use Rattle.mr_map.specs.Bytes.{Bytes, ByteMap, bytes_cmp, lent}
 use Rattle.mr_map.proofs.Domains.{same_keys, some_or}
 use Rattle.mr_map.proofs.Conditions.{or_next}
 use Rattle.mr_bytes.specs.Window.{window_of, windowed}
@@ -20,7 +20,7 @@ use Rattle.mr_effect.specs.declared.effect.Effect.{Effect}
 use Rattle.mr_effect.specs.declared.effect.Effect.TheVariants as effect
 use Rattle.mr_keyspace.specs.Cuts.{cut}
 use Rattle.mr_zset.specs.Order.{placed, in_order}
-use Rattle.mr_zset.specs.Pairs.{pair_cmp, pairs_of, range_of, shown}
+use Rattle.mr_zset.specs.Pairs.{pair_cmp, pairs_of, range_of, lent_pair}
 use Rattle.mr_zset.specs.declared.pair.Pair.{Pair}
 use Rattle.mr_zset.proofs.Cuts.{length-slice_range}
 use Rattle.mr_zset.specs.Bounds.{is_within}
@@ -29,7 +29,7 @@ use Rattle.mr_zset_options.specs.declared.choices.Order.{Order}
 use Rattle.mr_zset_options.specs.declared.choices.Order.TheVariants as order
 use Rattle.mr_zset_options.specs.declared.choices.RangeReply.TheVariants.{WithScores}
 use Rattle.mr_keyspace.specs.Collections.{with_members, without_scores}
-use Rattle.mr_cmd_shared.specs.Taken.{is_key, has, lent}
+use Rattle.mr_cmd_shared.specs.Taken.{is_key, has}
 use Rattle.mr_keyspace.proofs.Maps.{same_key}
 use Rattle.mr_cmd_shared.proofs.KeyLists.{more_words}
 use Rattle.mr_cmd_shared.proofs.TakenLemmas.{has_append}
@@ -67,12 +67,12 @@ pub one_length : (x : Bytes) → 1 ≡ len (as_set (x ∷ []))
 one_length x = sym (len_keys (as_set (x ∷ [])) ∙ ap length (one_key x))
 
 -- the only pair of a list
-pub one_pair : (ps : List Pair) (d : Pair) → 1 ≤ length ps → length ps < 2 → members_of (map shown ps) ≡ (get_or ps 0 d).member.now ∷ []
+pub one_pair : (ps : List Pair) (d : Pair) → 1 ≤ length ps → length ps < 2 → members_of (map lent_pair ps) ≡ (get_or ps 0 d).member.now ∷ []
 one_pair [] d some few = absurd (omega arith)
 one_pair (p ∷ []) d some few = refl
 one_pair (p ∷ q ∷ ps) d some few = absurd (omega arith)
 
-pub one_member : (ps : List Pair) → 1 ≤ length ps → length ps < 2 → 1 ≡ len (as_set (members_of (map shown ps)))
+pub one_member : (ps : List Pair) → 1 ≤ length ps → length ps < 2 → 1 ≡ len (as_set (members_of (map lent_pair ps)))
 one_member [] some few = absurd (omega arith)
 one_member (p ∷ []) some few = one_length p.member.now
 one_member (p ∷ q ∷ ps) some few = absurd (omega arith)
@@ -97,10 +97,10 @@ found a b n m w a_fits b_fits same places =
 
 -- the pair is all of a window, or the window hasn't exactly one
 abbrev pub IsOnlyPair : List (Bytes × ℤ) → Option (ℕ × ℕ) → Option Pair → Type 0
-IsOnlyPair xs window p = MatchOption p (length (windowed window xs) ≢ 1) (λ pair. windowed window xs ≡ shown pair ∷ [])
+IsOnlyPair xs window p = MatchOption p (length (windowed window xs) ≢ 1) (λ pair. windowed window xs ≡ lent_pair pair ∷ [])
 
 -- the window of one place is the pair there
-pub window_of_one : (xs : List (Bytes × ℤ)) (first last : ℕ) (window : Option (ℕ × ℕ)) (p : Option Pair) → window ≡ Some (first, last) → first ≡ last → option_map shown p ≡ slice_get xs first → IsOnlyPair xs window p
+pub window_of_one : (xs : List (Bytes × ℤ)) (first last : ℕ) (window : Option (ℕ × ℕ)) (p : Option Pair) → window ≡ Some (first, last) → first ≡ last → option_map lent_pair p ≡ slice_get xs first → IsOnlyPair xs window p
 window_of_one xs first last window p is same there = by_pair p there
   where
     cut_off : windowed window xs ≡ take 1 (drop first xs)
@@ -108,9 +108,9 @@ window_of_one xs first last window p is same there = by_pair p there
         let one : last + 1 - first ≡ 1 = omega (arith, same) in
         ap (λ w. windowed w xs) is ∙ ap (λ (n : ℕ). take n (drop first xs)) one
 
-    by_pair : (p : Option Pair) → option_map shown p ≡ slice_get xs first → IsOnlyPair xs window p
+    by_pair : (p : Option Pair) → option_map lent_pair p ≡ slice_get xs first → IsOnlyPair xs window p
     by_pair None there = λ one. let none : length (windowed window xs) ≡ 0 = ap length (cut_off ∙ none_at xs first there) in omega (arith, none, one)
-    by_pair (Some pair) there = cut_off ∙ one_at xs first (shown pair) (sym there)
+    by_pair (Some pair) there = cut_off ∙ one_at xs first (lent_pair pair) (sym there)
 
 -- the window of several places has several pairs
 pub window_of_more : (xs : List (Bytes × ℤ)) (first last : ℕ) (window : Option (ℕ × ℕ)) → window ≡ Some (first, last) → first ≤ last → last < length xs → first ≢ last → length (windowed window xs) ≢ 1

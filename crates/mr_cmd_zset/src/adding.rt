@@ -14,13 +14,12 @@ use mr_cmd_shared::{Effects, count};
 use mr_map::SliceMap;
 use mr_resp::Reply;
 use mr_score::is_score;
-use mr_zset::ZSet;
+use mr_zset::{Pair, ZSet};
 use mr_zset_options::ScoredMembers;
 use std::alloc::{AllocError, Global};
 
 /// `ZADD`
 pub fn zadd(
-    alloc: Global,
     key: &Argument<'_>,
     rules: Rules,
     pairs: &ScoredMembers<'_, '_>,
@@ -31,45 +30,45 @@ pub fn zadd(
         Makes (zadd rules.condition rules.comparison key.now rules.reply pairs.now set.now) (view r)
         effects.old effects.new) }
 {
-    if let Some((score, member)) = only_pair(pairs) {
-        let reply = add_one(alloc, key, rules, score, member, set, effects)?;
+    if let Some(pair) = only_pair(pairs) {
+        let reply = add_one(key, rules, pair, set, effects)?;
         return Ok(reply);
     }
-    let (scores, counted) = put_pairs(alloc, rules, pairs, set)?;
-    push_changed(alloc, key, &scores, set, effects)?;
+    let (scores, counted) = put_pairs(effects.alloc(), rules, pairs, set)?;
+    push_changed(key, &scores, set, effects)?;
     Ok(count(counted))
 }
 
 /// The score with its member, where pairs are one alone.
-fn only_pair<'a>(pairs: &ScoredMembers<'a, '_>) -> Option<(i64, &'a [u8])>
-    ensures one { IfSome result (λ p. pairs.now ≡ (p.0, p.1.now) ∷ []) }
+fn only_pair<'a>(pairs: &ScoredMembers<'a, '_>) -> Option<Pair<'a>>
+    ensures one { IfSome result (λ p. pairs.now ≡ (p.score, p.member.now) ∷ []) }
     ensures other { IfNone result (length pairs.now ≢ 1) }
     ensures small { length pairs.now < 2 ^ 63 }
 {
     if pairs.len() != 1 {
         return None;
     }
-    pairs.iter().next()
+    let (score, member) = pairs.iter().next()?;
+    Some(Pair { score, member })
 }
 
 /// What `ZADD` of one pair is answered, without putting members in order. Its effect is put behind those that are
 /// there.
 fn add_one(
-    alloc: Global,
     key: &Argument<'_>,
     rules: Rules,
-    score: i64,
-    member: &[u8],
+    pair: Pair<'_>,
     set: &ZSet,
     effects: &mut Effects,
 ) -> Result<Reply, AllocError>
     ensures { IfOk result (λ r.
-        Makes (zadd rules.condition rules.comparison key.now rules.reply ((score, member.now) ∷
-        []) set.now) (view r) effects.old effects.new) }
+        Makes (zadd rules.condition rules.comparison key.now rules.reply
+        ((pair.entry.score, pair.entry.member.now) ∷ []) set.now) (view r) effects.old
+        effects.new) }
 {
-    let before = set.score(member);
-    let after = rules.score_after(before, score);
-    push_changed_alone(alloc, key, member, before, after, effects)?;
+    let before = set.score(pair.member);
+    let after = rules.score_after(before, pair.score);
+    push_changed_alone(key, pair.member, before, after, effects)?;
     Ok(count(usize::from(rules.counts(before, after))))
 }
 
@@ -130,7 +129,6 @@ fn score_so_far(scores: &SliceMap<'_, i64>, set: &ZSet, member: &[u8]) -> Option
 
 /// `ZINCRBY`, which is answered by the sum, or by a refusal where it is no score.
 pub fn zincrby(
-    alloc: Global,
     key: &Argument<'_>,
     by: i64,
     member: &[u8],
@@ -144,8 +142,8 @@ pub fn zincrby(
     let Some(score) = increased(before, by) else {
         return Ok(out_of_range());
     };
-    push_changed_alone(alloc, key, member, before, Some(score), effects)?;
-    let reply = score_bulk(alloc, score)?;
+    push_changed_alone(key, member, before, Some(score), effects)?;
+    let reply = score_bulk(effects.alloc(), score)?;
     Ok(reply)
 }
 

@@ -6,8 +6,8 @@ ghost use Rattle.mr_cmd_zset.specs.Arguments.{add_scores, range_by_score, score_
 use crate::zset_ask::ZSetAsk;
 use mr_arguments::{Argument, Arguments, AskFault, Name, WordPairs, Words, count, integer};
 use mr_zset_options::{
-    AddOptions, LimitWords, Order, RangeBy, RangeOptions, RangeReply, ScoredMembers, bounds,
-    cut_options, limit_if_any, score,
+    AddOptions, Order, RangeBy, RangeOptions, RangeReply, ScoredMembers, bounds, cut_options,
+    limit_if_any, score,
 };
 use std::borrow::CowSlice;
 
@@ -193,16 +193,11 @@ pub fn zrange<'a, 't>(arguments: Arguments<'a, 't>) -> Reading<'a, 't>
 {
     match arguments {
         [key, first, second, words @ ..] => {
-            let RangeOptions {
-                by,
-                order,
-                limit,
-                reply,
-            } = RangeOptions::read(words)?;
-            match by {
-                RangeBy::Rank if limit.is_some() => Err(AskFault::Syntax),
-                RangeBy::Rank => ranks(key, first, second, order, reply),
-                RangeBy::Score => scores(key, first, second, order, &limit, reply),
+            let options = RangeOptions::read(words)?;
+            match options.by {
+                RangeBy::Rank if options.limit.is_some() => Err(AskFault::Syntax),
+                RangeBy::Rank => ranks(key, first, second, options.order, options.reply),
+                RangeBy::Score => scores(key, first, second, &options),
             }
         }
         _ => Err(AskFault::Arity(Name::ZRange)),
@@ -252,7 +247,15 @@ pub fn range_by_score<'a, 't>(
                 order: Order::Ascending,
                 limit,
                 reply,
-            } => scores(key, first, second, order, &limit, reply),
+            } => {
+                let by_score = RangeOptions {
+                    by: RangeBy::Score,
+                    order,
+                    limit,
+                    reply,
+                };
+                scores(key, first, second, &by_score)
+            }
             _ => Err(AskFault::Syntax),
         },
         _ => Err(AskFault::Arity(name)),
@@ -280,28 +283,27 @@ fn ranks<'a, 't>(
     })
 }
 
-/// A range by scores. It is a fault where a word of the limit is no whole number, or else where a bound is none.
+/// A range by scores, in the order of these options, with their limit and reply. It is a fault where a word of the limit
+/// is no whole number, or else where a bound is none.
 fn scores<'a, 't>(
     key: &'a CowSlice<'t, u8>,
     first: &CowSlice<'_, u8>,
     second: &CowSlice<'_, u8>,
-    order: Order,
-    limit: &Option<LimitWords<'_>>,
-    reply: RangeReply,
+    options: &RangeOptions<'_>,
 ) -> Reading<'a, 't>
     ensures { result ≡
         scores (cow_slice_items key.now) (cow_slice_items first.now) (cow_slice_items second.now)
-        order limit.now reply }
+        options.now.order options.now.limit options.now.reply }
 {
-    let limit = limit_if_any(limit)?;
-    let (min, max) = bounds(order, first, second)?;
+    let limit = limit_if_any(&options.limit)?;
+    let (min, max) = bounds(options.order, first, second)?;
     Ok(ZSetAsk::RangeByScore {
         key: Argument::of(key),
         min,
         max,
-        order,
+        order: options.order,
         limit,
-        reply,
+        reply: options.reply,
     })
 }
 

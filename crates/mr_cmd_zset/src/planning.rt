@@ -9,6 +9,7 @@ ghost use Rattle.mr_cmd_shared.specs.Commands.{IsPlan, IsFaithful, HasCommandTex
 ghost use Rattle.mr_cmd_zset.specs.Commands.{key_of, change, command, HasScores};
 ghost use Rattle.mr_cmd_zset.specs.Scores.{Makes};
 
+use crate::ranges::{ByRank, ByScore};
 use crate::replies::set_at;
 use crate::rules::Rules;
 use crate::zset_ask::ZSetAsk;
@@ -63,12 +64,12 @@ fn planned(
     ensures kept { IsDataset held.now }
 {
     let mut effects = Effects::new(alloc);
-    let live_entry = look(alloc, held, key_of(ask), given, &mut effects)?;
+    let live_entry = look(held, key_of(ask), given, &mut effects)?;
     let empty = ZSet::new(alloc);
     let Some(set) = set_at(live_entry, &empty) else {
         return Ok(effects.into_plan(wrong_kind()));
     };
-    let reply = change(alloc, ask, set, &mut effects)?;
+    let reply = change(ask, set, &mut effects)?;
     Ok(effects.into_plan(reply))
 }
 
@@ -94,14 +95,10 @@ fn key_of<'c, 'a>(ask: &'c ZSetAsk<'a, '_>) -> &'c Argument<'a>
 }
 
 /// What a command on a sorted set is answered. Its effects are put behind those that are there.
-fn change(
-    alloc: Global,
-    ask: &ZSetAsk<'_, '_>,
-    set: &ZSet,
-    effects: &mut Effects,
-) -> Result<Reply, AllocError>
+fn change(ask: &ZSetAsk<'_, '_>, set: &ZSet, effects: &mut Effects) -> Result<Reply, AllocError>
     ensures { IfOk result (λ r. Makes (change ask.now set.now) (view r) effects.old effects.new) }
 {
+    let alloc = effects.alloc();
     match ask {
         ZSetAsk::ZAdd {
             key,
@@ -110,25 +107,21 @@ fn change(
             reply,
             pairs,
         } => {
-            let rules = Rules {
-                condition: *condition,
-                comparison: *comparison,
-                reply: *reply,
-            };
-            adding::zadd(alloc, key, rules, pairs, set, effects)
+            let rules = Rules::new(*condition, *comparison, *reply);
+            adding::zadd(key, rules, pairs, set, effects)
         }
         ZSetAsk::ZIncrBy { key, by, member } => {
-            adding::zincrby(alloc, key, *by, member.as_slice(), set, effects)
+            adding::zincrby(key, *by, member.as_slice(), set, effects)
         }
-        ZSetAsk::ZRem { key, members } => { removing::zrem(alloc, key, members, set, effects) }
+        ZSetAsk::ZRem { key, members } => removing::zrem(key, members, set, effects),
         ZSetAsk::TakePairs { key, order, count } => {
-            removing::take_pairs(alloc, key, *order, *count, set, effects)
+            removing::take_pairs(key, *order, *count, set, effects)
         }
         ZSetAsk::ZRemRangeByRank { key, first, last } => {
-            removing::zremrangebyrank(alloc, key, *first, *last, set, effects)
+            removing::zremrangebyrank(key, *first, *last, set, effects)
         }
         ZSetAsk::ZRemRangeByScore { key, min, max } => {
-            removing::zremrangebyscore(alloc, key, *min, *max, set, effects)
+            removing::zremrangebyscore(key, *min, *max, set, effects)
         }
         ZSetAsk::ZCard { key: _ } => Ok(telling::zcard(set)),
         ZSetAsk::ZCount { key: _, min, max } => { Ok(telling::zcount(*min, *max, set)) }
@@ -145,7 +138,7 @@ fn change(
             last,
             order,
             reply,
-        } => ranges::by_rank(alloc, *first, *last, *order, *reply, set),
+        } => ranges::by_rank(alloc, ByRank::new(*first, *last, *order), *reply, set),
         ZSetAsk::RangeByScore {
             key: _,
             min,
@@ -153,6 +146,6 @@ fn change(
             order,
             limit,
             reply,
-        } => ranges::by_score(alloc, *min, *max, *order, *limit, *reply, set),
+        } => ranges::by_score(alloc, ByScore::new(*min, *max, *order, *limit), *reply, set),
     }
 }

@@ -3,7 +3,7 @@ ghost use Rattle.std.specs.Prelude.{◌≡◌, ◌+◌, ◌-◌, ◌≤◌, ℤ,
 ghost use Rattle.std.specs.List.{flat_map};
 ghost use Rattle.mr_map.specs.Bytes.{Bytes};
 ghost use Rattle.mr_resp.specs.ReplyView.{view};
-ghost use Rattle.mr_zset.specs.Pairs.{shown};
+ghost use Rattle.mr_zset.specs.Pairs.{lent_pair};
 ghost use Rattle.mr_cmd_zset.specs.Ranges.{limited, ordered, pair_replies, pairs_reply, ranked, scored};
 
 use crate::replies::score_bulk;
@@ -14,45 +14,86 @@ use mr_zset::{Bound, Pair, ZSet};
 use mr_zset_options::{Limit, Order, RangeReply};
 use std::alloc::{AllocError, Global};
 
+/// The places of a range, both included, which are counted in this order.
+#[derive(Clone, Copy)]
+pub struct ByRank {
+    pub first: i64,
+    pub last: i64,
+    pub order: Order,
+}
+
+impl ByRank {
+    /// The places from the first to the last, counted in this order.
+    pub fn new(first: i64, last: i64, order: Order) -> ByRank
+        ensures first { result.first ≡ first }
+        ensures last { result.last ≡ last }
+        ensures order { result.order ≡ order }
+    {
+        ByRank { first, last, order }
+    }
+}
+
+/// The bounds of a range of scores, the order in which its pairs stand, and the limit that is put on them then.
+#[derive(Clone, Copy)]
+pub struct ByScore {
+    pub min: Bound,
+    pub max: Bound,
+    pub order: Order,
+    pub limit: Option<Limit>,
+}
+
+impl ByScore {
+    /// The pairs between two bounds, in this order and with this limit.
+    pub fn new(min: Bound, max: Bound, order: Order, limit: Option<Limit>) -> ByScore
+        ensures min { result.min ≡ min }
+        ensures max { result.max ≡ max }
+        ensures order { result.order ≡ order }
+        ensures limit { result.limit ≡ limit }
+    {
+        ByScore {
+            min,
+            max,
+            order,
+            limit,
+        }
+    }
+}
+
 /// `ZRANGE` and `ZREVRANGE` by places, which are counted in the order that is asked for.
 pub fn by_rank(
     alloc: Global,
-    first: i64,
-    last: i64,
-    order: Order,
+    range: ByRank,
     shape: RangeReply,
     set: &ZSet,
 ) -> Result<Reply, AllocError>
-    ensures { IfOk result (λ r. view r ≡ pairs_reply shape (ranked first last order set.now)) }
+    ensures { IfOk result (λ r.
+        view r ≡ pairs_reply shape (ranked range.first range.last range.order set.now)) }
 {
-    let Some((first, last)) = window(first, last, set.len()) else {
+    let Some((first, last)) = window(range.first, range.last, set.len()) else {
         return Ok(Reply::Array(Vec::new(alloc)));
     };
-    let (start, end) = places_in(order, first, last + 1, set.len());
+    let (start, end) = places_in(range.order, first, last + 1, set.len());
     let pairs = set.by_rank(start, end - 1)?;
-    listed(alloc, pairs.as_slice(), order, shape)
+    listed(alloc, pairs.as_slice(), range.order, shape)
 }
 
 /// `ZRANGE` with `BYSCORE`, `ZRANGEBYSCORE` and `ZREVRANGEBYSCORE`: the pairs within the bounds, put in the order, and of
 /// these what the limit leaves. Only what is answered is taken from the set.
 pub fn by_score(
     alloc: Global,
-    min: Bound,
-    max: Bound,
-    order: Order,
-    limit: Option<Limit>,
+    range: ByScore,
     shape: RangeReply,
     set: &ZSet,
 ) -> Result<Reply, AllocError>
     ensures { IfOk result (λ r.
-        view r ≡ pairs_reply shape (scored min max order limit set.now)) }
+        view r ≡ pairs_reply shape (scored range.min range.max range.order range.limit set.now)) }
 {
-    let (first, past) = set.places(min, max);
+    let (first, past) = set.places(range.min, range.max);
     let count = past - first;
-    let (start, end) = limited_places(limit, count);
-    let (start, end) = places_in(order, start, end, count);
+    let (start, end) = limited_places(range.limit, count);
+    let (start, end) = places_in(range.order, start, end, count);
     let pairs = set.between(first + start, first + end)?;
-    listed(alloc, pairs.as_slice(), order, shape)
+    listed(alloc, pairs.as_slice(), range.order, shape)
 }
 
 /// The places, from the first to one past the last, that a limit leaves of so many.
@@ -99,7 +140,7 @@ fn listed(
     shape: RangeReply,
 ) -> Result<Reply, AllocError>
     ensures { IfOk result (λ r.
-        view r ≡ pairs_reply shape (ordered order (map shown pairs.now))) }
+        view r ≡ pairs_reply shape (ordered order (map lent_pair pairs.now))) }
 {
     match order {
         Order::Ascending => forward(alloc, pairs, shape),
@@ -109,7 +150,7 @@ fn listed(
 
 /// Pairs answered as they stand.
 pub fn forward(alloc: Global, pairs: &[Pair<'_>], shape: RangeReply) -> Result<Reply, AllocError>
-    ensures { IfOk result (λ r. view r ≡ pairs_reply shape (map shown pairs.now)) }
+    ensures { IfOk result (λ r. view r ≡ pairs_reply shape (map lent_pair pairs.now)) }
 {
     let mut replies = Vec::with_capacity(alloc, replies_to(pairs, shape))?;
     for pair in pairs {
@@ -120,7 +161,7 @@ pub fn forward(alloc: Global, pairs: &[Pair<'_>], shape: RangeReply) -> Result<R
 
 /// The answer of pairs from the last on.
 fn backward(alloc: Global, pairs: &[Pair<'_>], shape: RangeReply) -> Result<Reply, AllocError>
-    ensures { IfOk result (λ r. view r ≡ pairs_reply shape (reverse (map shown pairs.now))) }
+    ensures { IfOk result (λ r. view r ≡ pairs_reply shape (reverse (map lent_pair pairs.now))) }
 {
     let mut replies = Vec::with_capacity(alloc, replies_to(pairs, shape))?;
     for pair in pairs.iter().rev() {
@@ -132,7 +173,7 @@ fn backward(alloc: Global, pairs: &[Pair<'_>], shape: RangeReply) -> Result<Repl
 /// How many replies pairs are answered by.
 #[tactic(auto, using(crate::proofs::RangeLemmas::one_each, crate::proofs::RangeLemmas::two_each))]
 fn replies_to(pairs: &[Pair<'_>], shape: RangeReply) -> usize
-    ensures { result ≡ length (flat_map (pair_replies shape) (map shown pairs.now)) }
+    ensures { result ≡ length (flat_map (pair_replies shape) (map lent_pair pairs.now)) }
 {
     match shape {
         RangeReply::Members => pairs.len(),
@@ -148,7 +189,7 @@ fn push_pair(
     replies: &mut Vec<Reply>,
 ) -> Result<(), AllocError>
     ensures { OnOk result (map view replies.new.items ≡
-        map view replies.old.items ++ pair_replies shape (shown pair.now)) }
+        map view replies.old.items ++ pair_replies shape (lent_pair pair.now)) }
 {
     replies.push(bulk(alloc, pair.member)?)?;
     match shape {

@@ -2,13 +2,13 @@
 ghost use Rattle.std.specs.Prelude.{◌≡◌, ◌≢◌, ◌∷◌, ◌++◌, ◌<◌, ◌^◌, ◌≤◌, [], length, map, slice_range, take, IfOk, MatchOption, OnOk, Some};
 ghost use Rattle.std.specs.FinMap as finite;
 ghost use Rattle.std.specs.FinMap.{keys};
+ghost use Rattle.mr_map.specs.Bytes.{lent};
 ghost use Rattle.mr_resp.specs.ReplyView.{view};
 ghost use Rattle.mr_bytes.specs.Window.{window_of, windowed};
-ghost use Rattle.mr_zset.specs.Pairs.{pairs_of, shown};
+ghost use Rattle.mr_zset.specs.Pairs.{pairs_of, lent_pair};
 ghost use Rattle.mr_keyspace.specs.Collections.{without_scores};
 ghost use Rattle.mr_effect.specs.declared.effect.Effect.TheVariants as made;
 ghost use Rattle.mr_keyspace.specs.Cuts.{cut};
-ghost use Rattle.mr_cmd_shared.specs.Taken.{lent};
 ghost use Rattle.mr_cmd_zset.specs.Scores.{number, pairs_in, lost, Makes};
 ghost use Rattle.mr_cmd_zset.specs.Removing.{members_of, zrem, zremrangebyrank, zremrangebyscore, as_set, take_pairs};
 
@@ -24,7 +24,6 @@ use std::alloc::{AllocError, Global};
 
 /// `ZREM`, which is answered by how many of the members were there.
 pub fn zrem(
-    alloc: Global,
     key: &Argument<'_>,
     members: &Words<'_, '_>,
     set: &ZSet,
@@ -33,8 +32,8 @@ pub fn zrem(
     ensures { IfOk result (λ r.
         Makes (zrem key.now members.now set.now) (view r) effects.old effects.new) }
 {
-    let lost = named_there(alloc, members, set)?;
-    push_lost(alloc, key, &lost, effects)?;
+    let lost = named_there(effects.alloc(), members, set)?;
+    push_lost(key, &lost, effects)?;
     Ok(count(lost.len()))
 }
 
@@ -68,7 +67,6 @@ fn in_byte_order(mut members: Vec<&[u8]>) -> Vec<&[u8]>
 
 /// `ZREMRANGEBYRANK`: the pairs between two indexes go, both included. One alone takes no memory but that of its effect.
 pub fn zremrangebyrank(
-    alloc: Global,
     key: &Argument<'_>,
     first: i64,
     last: i64,
@@ -79,11 +77,11 @@ pub fn zremrangebyrank(
         Makes (zremrangebyrank key.now first last set.now) (view r) effects.old effects.new) }
 {
     if let Some(pair) = only_pair(set, first, last) {
-        push_lost_alone(alloc, key, pair.member, effects)?;
+        push_lost_alone(key, pair.member, effects)?;
         return Ok(count(1));
     }
     let (first, past) = places_at(set, first, last);
-    let reply = remove_places(alloc, key, first, past, set, effects)?;
+    let reply = remove_places(key, first, past, set, effects)?;
     Ok(reply)
 }
 
@@ -93,7 +91,7 @@ fn only_pair(set: &ZSet, first: i64, last: i64) -> Option<Pair<'_>>
         (length (windowed (window_of first last (finite.len set.now)) (pairs_of set.now)) ≢
         1) (λ pair.
         windowed (window_of first last (finite.len set.now)) (pairs_of set.now) ≡
-        shown pair ∷ []) }
+        lent_pair pair ∷ []) }
 {
     match window(first, last, set.len()) {
         Some((first, last)) if first == last => set.nth(first),
@@ -116,7 +114,6 @@ fn places_at(set: &ZSet, first: i64, last: i64) -> (usize, usize)
 
 /// `ZREMRANGEBYSCORE`
 pub fn zremrangebyscore(
-    alloc: Global,
     key: &Argument<'_>,
     min: Bound,
     max: Bound,
@@ -127,14 +124,13 @@ pub fn zremrangebyscore(
         Makes (zremrangebyscore key.now min max set.now) (view r) effects.old effects.new) }
 {
     let (first, past) = set.places(min, max);
-    let reply = remove_places(alloc, key, first, past, set, effects)?;
+    let reply = remove_places(key, first, past, set, effects)?;
     Ok(reply)
 }
 
 /// Puts the effects that take the pairs from one place to another out, the second left out, and answers how many these
 /// are. Where they are all pairs of the set, no memory is taken but that of the effects.
 fn remove_places(
-    alloc: Global,
     key: &Argument<'_>,
     first: usize,
     past: usize,
@@ -152,58 +148,58 @@ fn remove_places(
         (cut (keys (as_set (members_of (slice_range (pairs_of set.now) first past)))))) }
 {
     if past - first == set.len() {
-        push_all(alloc, key, set, effects)?;
+        push_all(key, set, effects)?;
         return Ok(count(set.len()));
     }
     let pairs = set.between(first, past)?;
-    remove_pairs(alloc, key, &pairs, effects)
+    remove_pairs(key, &pairs, effects)
 }
 
 /// Puts the effects that take the members of pairs out, and answers how many these are.
 fn remove_pairs(
-    alloc: Global,
     key: &Argument<'_>,
     pairs: &[Pair<'_>],
     effects: &mut Effects,
 ) -> Result<Reply, AllocError>
     ensures reply { IfOk result (λ r.
-        view r ≡ number (finite.len (as_set (members_of (map shown pairs.now))))) }
+        view r ≡ number (finite.len (as_set (members_of (map lent_pair pairs.now))))) }
     ensures effects { OnOk result (effects.new ≡
         effects.old ++
-        map (made.RemoveScores key.now) (cut (keys (as_set (members_of (map shown pairs.now)))))) }
+        map (made.RemoveScores key.now)
+        (cut (keys (as_set (members_of (map lent_pair pairs.now)))))) }
 {
-    let removed = push_members(alloc, key, pairs, effects)?;
+    let removed = push_members(key, pairs, effects)?;
     Ok(count(removed))
 }
 
 /// Puts the effects that take the members of pairs out, and says how many these are.
 fn push_members(
-    alloc: Global,
     key: &Argument<'_>,
     pairs: &[Pair<'_>],
     effects: &mut Effects,
 ) -> Result<usize, AllocError>
     ensures removed { IfOk result (λ n.
-        n ≡ finite.len (as_set (members_of (map shown pairs.now)))) }
+        n ≡ finite.len (as_set (members_of (map lent_pair pairs.now)))) }
     ensures small { IfOk result (λ n. n < 2 ^ 63) }
     ensures effects { OnOk result (effects.new ≡
         effects.old ++
-        map (made.RemoveScores key.now) (cut (keys (as_set (members_of (map shown pairs.now)))))) }
+        map (made.RemoveScores key.now)
+        (cut (keys (as_set (members_of (map lent_pair pairs.now)))))) }
 {
     if let [pair] = pairs {
         // one member needs no order
-        push_lost_alone(alloc, key, pair.member, effects)?;
+        push_lost_alone(key, pair.member, effects)?;
         return Ok(1);
     }
-    let lost = members_of(alloc, pairs)?;
-    push_lost(alloc, key, &lost, effects)?;
+    let lost = members_of(effects.alloc(), pairs)?;
+    push_lost(key, &lost, effects)?;
     Ok(lost.len())
 }
 
 /// The members of pairs in byte order, each once. They are not copied.
 fn members_of<'d>(alloc: Global, pairs: &[Pair<'d>]) -> Result<Vec<&'d [u8]>, AllocError>
     ensures { IfOk result (λ members.
-        lent members.items ≡ keys (as_set (members_of (map shown pairs.now)))) }
+        lent members.items ≡ keys (as_set (members_of (map lent_pair pairs.now)))) }
 {
     let mut members = Vec::with_capacity(alloc, pairs.len())?;
     for pair in pairs {
@@ -214,7 +210,6 @@ fn members_of<'d>(alloc: Global, pairs: &[Pair<'d>]) -> Result<Vec<&'d [u8]>, Al
 
 /// `ZPOPMIN`, `ZPOPMAX`
 pub fn take_pairs(
-    alloc: Global,
     key: &Argument<'_>,
     order: Order,
     count: Option<usize>,
@@ -224,12 +219,11 @@ pub fn take_pairs(
     ensures { IfOk result (λ r.
         Makes (take_pairs key.now order count set.now) (view r) effects.old effects.new) }
 {
-    take_from(alloc, key, order, count.unwrap_or(1), set, effects)
+    take_from(key, order, count.unwrap_or(1), set, effects)
 }
 
 /// What `ZPOPMIN` and `ZPOPMAX` on a set are answered: the first pairs in the order, at most so many, which go.
 fn take_from(
-    alloc: Global,
     key: &Argument<'_>,
     order: Order,
     count: usize,
@@ -239,11 +233,12 @@ fn take_from(
     ensures { IfOk result (λ r.
         Makes (take_pairs key.now order (Some count) set.now) (view r) effects.old effects.new) }
 {
+    let alloc = effects.alloc();
     let pairs = first_pairs(alloc, order, count, set)?;
     if pairs.len() == set.len() {
-        push_all(alloc, key, set, effects)?;
+        push_all(key, set, effects)?;
     } else {
-        push_members(alloc, key, &pairs, effects)?;
+        push_members(key, &pairs, effects)?;
     }
     let reply = forward(alloc, &pairs, RangeReply::WithScores)?;
     Ok(reply)
@@ -257,7 +252,7 @@ fn first_pairs(
     set: &ZSet,
 ) -> Result<Vec<Pair<'_>>, AllocError>
     ensures { IfOk result (λ pairs.
-        map shown pairs.items ≡ take count (pairs_in order set.now)) }
+        map lent_pair pairs.items ≡ take count (pairs_in order set.now)) }
 {
     let len = set.len();
     let count = count.min(len);

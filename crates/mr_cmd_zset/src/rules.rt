@@ -14,6 +14,23 @@ pub struct Rules {
 }
 
 impl Rules {
+    /// The rules of this condition and this comparison, with pairs counted for this reply.
+    pub fn new(
+        condition: Option<ScoreCondition>,
+        comparison: Option<Comparison>,
+        reply: ScoresReply,
+    ) -> Rules
+        ensures condition { result.condition ≡ condition }
+        ensures comparison { result.comparison ≡ comparison }
+        ensures reply { result.reply ≡ reply }
+    {
+        Rules {
+            condition,
+            comparison,
+            reply,
+        }
+    }
+
     /// Whether a member with this score before may have that score.
     pub fn sets(self, before: Option<i64>, score: i64) -> bool
         ensures { result ≡ is_set self.condition self.comparison before score }

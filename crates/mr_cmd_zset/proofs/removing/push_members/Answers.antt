@@ -2,11 +2,10 @@ use Rattle.std.proofs.Common.{List, ◌∙◌, ap, sym, map, length, ◌++◌}
 use Rattle.std.specs.Borrow.{Bor}
 use Rattle.std.proofs.lemmas.List.{length-map}
 use Rattle.std.specs.FinMap.{keys}
-use Rattle.mr_map.specs.Bytes.{Bytes}
+use Rattle.mr_map.specs.Bytes.{lent, Bytes}
 use Rattle.mr_effect.specs.declared.effect.Effect.TheVariants as made
 use Rattle.mr_keyspace.specs.Cuts.{cut}
-use Rattle.mr_cmd_shared.specs.Taken.{lent}
-use Rattle.mr_zset.specs.Pairs.{shown}
+use Rattle.mr_zset.specs.Pairs.{lent_pair}
 use Rattle.mr_cmd_zset.specs.Removing.{members_of, as_set}
 use Rattle.mr_cmd_zset.proofs.Removals.{one_pair, one_key, one_member, len_keys}
 use Rattle.mr_cmd_zset.proofs.removing.push_members.Goals as goal
@@ -24,7 +23,7 @@ pub returns-clause-removed : goal.returns-clause-removed
 returns-clause-removed c =
     let lost = c.in_ok-lost.lost in
     c.len.ensures ∙ lost.ok.0 ∙ sym (length-map lost.items (λ (m : Bor Bytes). m.now)) ∙ ap length c.in_ok-lost.ensures
-    ∙ sym (len_keys (as_set (members_of (map shown c.args.pairs.now))))
+    ∙ sym (len_keys (as_set (members_of (map lent_pair c.args.pairs.now))))
 
 pub returns-clause-effects : goal.returns-clause-effects
 returns-clause-effects c =

@@ -1,10 +1,9 @@
 use Rattle.std.proofs.Common.{◌≡◌, ◌∙◌, ◌++◌, List, ap, sym, map, length}
 use Rattle.std.specs.Borrow.{Bor}
 use Rattle.std.proofs.lemmas.List.{length-map}
-use Rattle.mr_map.specs.Bytes.{Bytes}
+use Rattle.mr_map.specs.Bytes.{lent, Bytes}
 use Rattle.mr_effect.specs.declared.effect.Effect.TheVariants as made
 use Rattle.mr_keyspace.specs.Cuts.{cut}
-use Rattle.mr_cmd_shared.specs.Taken.{lent}
 use Rattle.mr_cmd_zset.proofs.Removals.{reduced_made}
 use Rattle.mr_cmd_zset.proofs.removing.zrem.Goals as goal
 

@@ -3,7 +3,7 @@ use Rattle.std.proofs.lemmas.Int.{to_z-of_z}
 use Rattle.std.specs.FinMap.{len}
 use Rattle.mr_map.specs.Bytes.{Bytes}
 use Rattle.mr_bytes.specs.Window.{window_of, windowed}
-use Rattle.mr_zset.specs.Pairs.{pairs_of, shown}
+use Rattle.mr_zset.specs.Pairs.{pairs_of, lent_pair}
 use Rattle.mr_effect.specs.declared.effect.Effect.TheVariants as made
 use Rattle.mr_keyspace.specs.Cuts.{cut}
 use Rattle.mr_cmd_zset.specs.Scores.{number}
@@ -16,8 +16,8 @@ returns-in-Some c =
     let a = c.args.first in
     let b = c.args.last in
     let x = c.in-Some.pair.member.now in
-    let only : shown c.in-Some.pair ∷ [] ≡ windowed (window_of a b (len s)) (pairs_of s) = sym c.in-Some.ensures ∙ ap (λ (i : ℤ). windowed (window_of i (to_z w64 (of_z w64 b)) (len s)) (pairs_of s)) (to_z-of_z w64 a c.ranges.first) ∙ ap (λ (i : ℤ). windowed (window_of a i (len s)) (pairs_of s)) (to_z-of_z w64 b c.ranges.last) in
-    pairs_made c.args.key.now (windowed (window_of a b (len s)) (pairs_of s)) (shown c.in-Some.pair ∷ []) s _ _ _ only (windowed_in s (window_of a b (len s)) (pairs_of s) (pairs_are_in s))
+    let only : lent_pair c.in-Some.pair ∷ [] ≡ windowed (window_of a b (len s)) (pairs_of s) = sym c.in-Some.ensures ∙ ap (λ (i : ℤ). windowed (window_of i (to_z w64 (of_z w64 b)) (len s)) (pairs_of s)) (to_z-of_z w64 a c.ranges.first) ∙ ap (λ (i : ℤ). windowed (window_of a i (len s)) (pairs_of s)) (to_z-of_z w64 b c.ranges.last) in
+    pairs_made c.args.key.now (windowed (window_of a b (len s)) (pairs_of s)) (lent_pair c.in-Some.pair ∷ []) s _ _ _ only (windowed_in s (window_of a b (len s)) (pairs_of s) (pairs_are_in s))
     (c.count.ensures ∙ ap number (one_length x))
     (c.in_ok-push_lost_alone.ensures ∙ ap (λ (ms : List Bytes). c.args.effects.now ++ map (made.RemoveScores c.args.key.now) (cut ms)) (sym (one_key x)))
 
