@@ -2,6 +2,7 @@
 use Rattle.std.proofs.Common.{◌≡◌, ℕ, ◌≤◌, ◌+◌, ◌-◌, List, ◌++◌, Option, sym, ap, subst, ◌∙◌, arith, length, take, drop, take_all, take-add, length-drop}
 use Rattle.std.specs.Io.KnownBytes.{Appends}
 use Rattle.std.proofs.KnownBytes.{Appends-trans}
+use Rattle.mr_file.specs.Outputs.{IsBegun}
 
 -- what follows the first n
 abbrev pub rest_of : ℕ → List ℕ → List ℕ
@@ -15,3 +16,7 @@ some_more a b d bytes n k one two = subst (λ z. Appends a d z) (parts n k bytes
 
 pub all_written : (a b : Option (List ℕ)) (bytes : List ℕ) (n : ℕ) → length bytes ≤ n → Appends a b (take n bytes) → Appends a b bytes
 all_written a b bytes n all w = subst (λ z. Appends a b z) (take_all n bytes all) w
+
+-- all of it is a beginning of it
+pub all_begun : (a b : Option (List ℕ)) (bytes : List ℕ) → Appends a b bytes → IsBegun a b bytes
+all_begun a b bytes w = (length bytes, omega arith, subst (λ z. Appends a b z) (sym (take_all (length bytes) bytes (omega arith))) w)

@@ -1,3 +1,4 @@
 pub mod Change
 pub mod Kind
 pub mod LogFile
+pub mod Outputs

@@ -17,7 +17,8 @@ use Rattle.mr_pipe.specs.declared.linked_node.LinkedNode.{LinkedNode}
 use Rattle.mr_pipe.specs.declared.fault.PipeFault.{PipeFault}
 use Rattle.mr_pipe.specs.declared.fault.PipeFault.TheVariants as fault
 use Rattle.mr_pipe.proofs.Serves.{serves_more, serves_join, more_moments, changes_join, changes_more}
-use Rattle.mr_pipe.proofs.Files.{settled_join, settled_kept, all_begun}
+use Rattle.mr_file.proofs.Written.{all_begun}
+use Rattle.mr_pipe.proofs.Files.{settled_join, settled_kept}
 use Rattle.mr_pipe.proofs.Refusals.{feed_refused}
 
 -- a fault in the step behind those that were served

@@ -6,7 +6,8 @@ use Rattle.std.specs.Prelude.{Result, Ok, Err, OnOk, OnErr, IfErr, IsErrOf, true
 use Rattle.mr_aof.specs.declared.fault.LogFault.{LogFault}
 use Rattle.mr_aof.specs.declared.fault.LogFault.TheVariants as log_fault
 use Rattle.mr_node_output.specs.Outs.{Output}
-use Rattle.mr_pipe.specs.Outside.{Kept, Outside, Change, appends, replaces, Made, Filed, Fails, IsTorn, IsBegun, IsSettled}
+use Rattle.mr_pipe.specs.Outside.{Kept, Outside, Change, appends, replaces, Made, Filed, Fails, IsTorn, IsSettled}
+use Rattle.mr_file.specs.Outputs.{IsBegun}
 use Rattle.mr_pipe.specs.Sessions.{changes_of}
 use Rattle.mr_pipe.specs.Serving.{IsCarriedOut}
 use Rattle.mr_pipe.specs.declared.fault.PipeFault.{PipeFault}
@@ -33,10 +34,6 @@ settled_kept x y z p s f k same = record {
   filed = subst (λ (m : Kept). Filed x.kept m p) (sym same) f.filed;
   told = Appends-kept x.output y.output z.output s f.told k;
 }
-
--- all of it is a beginning of it
-pub all_begun : (old new : Option (List ℕ)) (bytes : List ℕ) → Appends old new bytes → IsBegun old new bytes
-all_begun old new bytes w = (length bytes, (omega arith, subst (λ z. Appends old new z) (sym (take_all (length bytes) bytes (omega arith))) w))
 
 -- ---- bytes that are written part by part
 pub no_more_written : (a b d : Option (List ℕ)) (bytes : List ℕ) → Appends a b bytes → Appends b d [] → Appends a d bytes

@@ -1,5 +1,5 @@
 -- What a pipe writes to, its output and its file, and what was written there.
-use Rattle.std.specs.Prelude.{◌≡◌, ◌⊎◌, ℕ, ◌≤◌, List, [], ◌∷◌, ◌++◌, Bool, true, false, Option, None, Some, IfSome, length, take}
+use Rattle.std.specs.Prelude.{◌≡◌, ◌⊎◌, ℕ, ◌≤◌, List, [], ◌∷◌, ◌++◌, Bool, true, false, Option, None, Some, IfSome}
 use Rattle.std.specs.Io.KnownBytes as known
 use Rattle.mr_file.specs.LogFile.{Rose, AppendsSome, IsOldOrNew, IsSynced}
 use Rattle.mr_aof.specs.declared.log.Log.{Log}
@@ -88,10 +88,6 @@ pub record IsTorn (a b : Kept) (changes : List Change) : Type 0 where
   pub between : Kept
   pub filed : Filed a between made
   pub fails : Fails between b change
-
--- a beginning of the bytes was written, which may be empty or all of them
-abbrev pub IsBegun : Option (List ℕ) → Option (List ℕ) → List ℕ → Type 0
-IsBegun old new bytes = (n : ℕ) × ((n ≤ length bytes) × known.Appends old new (take n bytes))
 
 -- The changes were made to the file, and what is said stands in the output.
 pub record IsSettled (x y : Outside) (changes : List Change) (said : List ℕ) : Type 0 where

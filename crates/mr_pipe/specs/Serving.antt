@@ -7,7 +7,8 @@ use Rattle.mr_node_links.specs.State.{Transaction}
 use Rattle.mr_node_spec.specs.ClientRows.{Stops}
 use Rattle.mr_node_spec.specs.Requests.{Waits}
 use Rattle.mr_node_spec.specs.Transactions.{StopsWithin}
-use Rattle.mr_pipe.specs.Outside.{Outside, Filed, IsTorn, IsBegun, IsSettled}
+use Rattle.mr_pipe.specs.Outside.{Outside, Filed, IsTorn, IsSettled}
+use Rattle.mr_file.specs.Outputs.{IsBegun}
 use Rattle.mr_pipe.specs.State.{PipeState, Stands}
 use Rattle.mr_pipe.specs.Sessions.{Moment, AreServed, Gives, IsLast, IsServed, all_changes, changes_of}
 use Rattle.mr_pipe.specs.declared.linked_node.LinkedNode.{LinkedNode}

@@ -1,15 +1,16 @@
 // What one step has kept: its changes of the file, and its reply in the output.
-ghost use Rattle.std.specs.Prelude.{◌≡◌, ◌≤◌, [], length, take, IfOk, IfErr, OnOk, OnErr};
+ghost use Rattle.std.specs.Prelude.{◌≡◌, IfOk, IfErr, OnOk, OnErr};
 ghost use Rattle.std.specs.Option.{option_map};
 ghost use Rattle.std.specs.Io.KnownBytes as known;
-ghost use Rattle.mr_pipe.specs.Outside.{Filed, IsTorn, IsBegun, kept_of, appends, replaces};
+ghost use Rattle.mr_pipe.specs.Outside.{Filed, IsTorn, kept_of, appends, replaces};
+ghost use Rattle.mr_file.specs.Outputs.{IsBegun};
 ghost use Rattle.mr_pipe.specs.Sessions.{changes_of, output_of};
 
 use crate::fault::PipeFault;
 use mr_aof::Log;
-use mr_file::LogFile;
+use mr_file::{LogFile, write_out};
 use mr_node_output::Outs;
-use std::io::{ErrorKind, Write};
+use std::io::Write;
 
 /// Appends texts to the file, where there are some.
 fn append<F: LogFile>(log: &mut Log<F>, texts: &[u8]) -> Result<(), PipeFault>
@@ -65,41 +66,16 @@ pub(crate) fn change_file<F: LogFile>(log: &mut Log<F>, outs: &Outs) -> Result<(
     replace(log, outs.replaced())
 }
 
-/// Writes once. None is written where the write was interrupted.
-fn write_some<W: Write>(output: &mut W, bytes: &[u8]) -> Result<usize, PipeFault>
-    ensures within { IfOk result (λ n. n ≤ length bytes.now) }
-    ensures written { IfOk result (λ n.
-        known.Appends (W.contents output.old) (W.contents output.new) (take n bytes.now)) }
-    ensures failed { OnErr result
-        (known.Appends (W.contents output.old) (W.contents output.new) []) }
-    ensures fault { IfErr result (λ e. e ≡ PipeFault.Write) }
-{
-    match output.write(bytes) {
-        Ok(0) => Err(PipeFault::Write),
-        Ok(count) => Ok(count),
-        Err(error) => {
-            if error.kind() == ErrorKind::Interrupted {
-                return Ok(0);
-            }
-            Err(PipeFault::Write)
-        }
-    }
-}
-
-/// Writes all bytes, in as many writes as it takes. After a fault a beginning of them is written.
-pub fn write_out<W: Write>(output: &mut W, bytes: &[u8]) -> Result<(), PipeFault>
+/// Writes a reply. After a fault a beginning of it is written.
+pub fn write_reply<W: Write>(output: &mut W, bytes: &[u8]) -> Result<(), PipeFault>
     ensures written { OnOk result
         (known.Appends (W.contents output.old) (W.contents output.new) bytes.now) }
     ensures begun { OnErr result
         (IsBegun (W.contents output.old) (W.contents output.new) bytes.now) }
     ensures fault { IfErr result (λ e. e ≡ PipeFault.Write) }
 {
-    let mut at = 0;
-    for _write in 0..u64::MAX {
-        if at >= bytes.len() {
-            return Ok(());
-        }
-        at += write_some(output, &bytes[at..])?;
+    match write_out(output, bytes) {
+        Ok(()) => Ok(()),
+        Err(_failed) => Err(PipeFault::Write),
     }
-    Err(PipeFault::Write)
 }

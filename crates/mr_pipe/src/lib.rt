@@ -11,7 +11,7 @@ mod serve;
 
 pub use config::PipeConfig;
 pub use fault::PipeFault;
-pub use keep::write_out;
+pub use keep::write_reply;
 pub use laws::{
     files_fold, files_stay_synced, open_transactions_wait, replica_links_are_silent,
     replicas_only_rewrite, transactions_load_whole,

@@ -6,7 +6,7 @@ ghost use Rattle.mr_pipe.specs.Sessions.{is_last, output_of};
 ghost use Rattle.mr_pipe.specs.Serving.{Going, IsCarriedOut, IsDrained, IsStepped};
 
 use crate::fault::PipeFault;
-use crate::keep::{change_file, write_out};
+use crate::keep::{change_file, write_reply};
 use crate::linked_node::LinkedNode;
 use mr_aof::Log;
 use mr_data::Given;
@@ -38,7 +38,7 @@ fn carry_out<F: LogFile, W: Write>(
         (outside W.contents F.told F.synced F.failures output.new log.new) result }
 {
     change_file(log, outs)?;
-    write_out(output, outs.reply())
+    write_reply(output, outs.reply())
 }
 
 /// Whether nothing is served behind a step that gave this out: the link is closed, or the program is to end.

@@ -3,9 +3,10 @@ use Rattle.std.proofs.Common.{◌≡◌, ◌≢◌, ◌∙◌, ℕ, suc, List, [
 use Rattle.std.specs.Prelude.{Result, Ok, Err}
 use Rattle.std.specs.Io.KnownBytes.{Appends}
 use Rattle.std.proofs.KnownBytes.{Appends-nil, Appends-trans}
-use Rattle.mr_trio_script.proofs.LinesPlayed.{all_begun, silent, then_begun}
+use Rattle.mr_file.proofs.Written.{all_begun}
+use Rattle.mr_trio_script.proofs.LinesPlayed.{silent, then_begun}
 use Rattle.mr_trio_script.specs.Conduct.{Conduct}
-use Rattle.mr_trio_script.specs.Outputs.{IsBegun}
+use Rattle.mr_file.specs.Outputs.{IsBegun}
 use Rattle.mr_trio_script.specs.Scripts.{AreEndLines, CutsEnds, EndsLate, EndsLine, EndsScript, Plays, PlaysAll, PlaysScript, PlaysToLate, StopsShort, TellsEnd, all_places, amid, at_end, at_late}
 use Rattle.mr_trio_script.specs.Telling.{end_line, late}
 use Rattle.mr_trio_script.specs.declared.ending.Ending.{Ending}

@@ -8,7 +8,8 @@ use Rattle.std.proofs.lemmas.Grind.{flat_map-append}
 use Rattle.mr_trio_script.specs.Asking.{Asks}
 use Rattle.mr_trio_script.specs.Conduct.{Conduct}
 use Rattle.mr_trio_script.specs.Inputs.{Took}
-use Rattle.mr_trio_script.specs.Outputs.{IsBegun}
+use Rattle.mr_file.specs.Outputs.{IsBegun}
+use Rattle.mr_file.proofs.Written.{all_begun}
 use Rattle.mr_trio_script.specs.Scripts.{Answer, AnswersBy, Played, ArePlayed, Fits, HasPlayed, IsAnswered, IsCut, IsLate, Plays, PlaysAll, PlaysLine, PlaysSome, PlaysToLate, answer_text, answers_of, lines_of}
 use Rattle.mr_trio_script.specs.declared.fault.TrioFault.{TrioFault}
 use Rattle.mr_trio_script.specs.declared.fault.TrioFault.TheVariants.{Stream, Stopped, Socket, Late}
@@ -16,9 +17,6 @@ use Rattle.mr_trio_script.specs.declared.place.Place.{Place}
 use Rattle.mr_trio_script.specs.declared.taking.NextLine.TheVariants.{Line, End}
 
 -- ---- bytes that are written
-pub all_begun : (old new : Option (List ℕ)) (bytes : List ℕ) → Appends old new bytes → IsBegun old new bytes
-all_begun old new bytes w = (length bytes, omega arith, subst (λ z. Appends old new z) (sym (take_all (length bytes) bytes (omega arith))) w)
-
 pub then_begun : (a b c : Option (List ℕ)) (front bytes : List ℕ) → Appends a b front → IsBegun b c bytes → IsBegun a c (front ++ bytes)
 then_begun a b c front bytes told begun = (
   length front + begun.0,

@@ -4,7 +4,6 @@ pub mod Faults
 pub mod Inputs
 pub mod Lines
 pub mod Naming
-pub mod Outputs
 pub mod Places
 pub mod Scripts
 pub mod Shown

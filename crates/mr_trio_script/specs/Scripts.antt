@@ -8,7 +8,7 @@ use Rattle.mr_inline.specs.Line.{IsBlank}
 use Rattle.mr_trio_script.specs.declared.ending.Ending.{Ending}
 use Rattle.mr_trio_script.specs.Inputs.{IsFed, IsRest}
 use Rattle.mr_inline.specs.Limits.{line_limit}
-use Rattle.mr_trio_script.specs.Outputs.{IsBegun}
+use Rattle.mr_file.specs.Outputs.{IsBegun}
 use Rattle.mr_trio_script.specs.Asking.{Asks, AsksNobody}
 use Rattle.mr_trio_script.specs.Conduct.{Conduct}
 use Rattle.mr_trio_script.specs.Telling.{bad_line, end_line, late, reply_line}

@@ -17,7 +17,6 @@ mod request;
 mod showing;
 mod taking;
 mod telling;
-mod writing;
 
 pub use client::{Client, ClientFault};
 pub use ending::Ending;

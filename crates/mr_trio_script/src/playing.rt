@@ -2,7 +2,7 @@
 ghost use Rattle.std.specs.Prelude.{◌≡◌, IfErr, OnOk, OnErr, map};
 ghost use Rattle.std.specs.Cow.{cow_slice_items};
 ghost use Rattle.std.specs.Io.KnownBytes.{Appends};
-ghost use Rattle.mr_trio_script.specs.Outputs.{IsBegun};
+ghost use Rattle.mr_file.specs.Outputs.{IsBegun};
 ghost use Rattle.mr_trio_script.specs.Scripts.{AnswersBy, EndsLine, EndsScript, Plays, PlaysLine, PlaysScript};
 
 use crate::asking::{Asked, read_asked};
@@ -11,7 +11,7 @@ use crate::nodes::Nodes;
 use crate::place::Place;
 use crate::taking::{InputFault, NextLine, next_line};
 use crate::telling::{BAD_LINE, LATE, end_line, reply_line};
-use crate::writing::write_out;
+use mr_file::write_out;
 use std::alloc::Global;
 use std::borrow::CowSlice;
 use std::io::{BufRead, Write};

@@ -2,7 +2,7 @@ use Rattle.std.proofs.Common.{subst, ◌∙◌, List, ℕ}
 use Rattle.std.specs.Prelude.{OnOk, OnErr}
 use Rattle.std.specs.Io.KnownBytes.{Appends}
 use Rattle.mr_trio_script.specs.Asking.{IsAsked}
-use Rattle.mr_trio_script.specs.Outputs.{IsBegun}
+use Rattle.mr_file.specs.Outputs.{IsBegun}
 use Rattle.mr_trio_script.specs.Scripts.{reply}
 use Rattle.mr_trio_script.specs.declared.asking.Asked.{Asked}
 use Rattle.mr_trio_script.proofs.LinesPlayed.{told_line}

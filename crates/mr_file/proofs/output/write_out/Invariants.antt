@@ -1,6 +1,6 @@
 use Rattle.std.proofs.Common.{length, take, ◌≤◌}
 use Rattle.std.specs.Io.KnownBytes.{Appends}
-use Rattle.mr_pipe.proofs.keep.write_out.Given as goal
+use Rattle.mr_file.proofs.output.write_out.Given as goal
 
 -- the bytes before this place were written
 abbrev pub invariant-loop-write : goal.invariant-loop-write

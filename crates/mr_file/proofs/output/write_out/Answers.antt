@@ -1,6 +1,6 @@
 use Rattle.std.proofs.Common.{arith, ◌-◌, length, drop, length-drop, length-take}
 use Rattle.mr_file.proofs.Written.{some_more}
-use Rattle.mr_pipe.proofs.keep.write_out.Goals as goal
+use Rattle.mr_file.proofs.output.write_out.Goals as goal
 
 pub loop-write-preserved : goal.loop-write-preserved
 loop-write-preserved g c = record {

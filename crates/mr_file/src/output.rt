@@ -1,14 +1,14 @@
-// What is written.
+// Outputs, to which bytes are written in as many writes as it takes.
 ghost use Rattle.std.specs.Prelude.{◌≤◌, [], length, take, IfOk, OnOk, OnErr};
 ghost use Rattle.std.specs.Io.KnownBytes as known;
-ghost use Rattle.mr_trio_script.specs.Outputs.{IsBegun};
+ghost use Rattle.mr_file.specs.Outputs.{IsBegun};
 
 use std::io::{ErrorKind, Write};
 use thiserror::Error;
 
 /// An output can't be written.
 #[derive(Clone, Copy, Debug, PartialEq, Eq, Error)]
-#[error("file failed")]
+#[error("the output failed")]
 pub struct OutputFault;
 
 /// Writes once. None is written where the write was interrupted.
