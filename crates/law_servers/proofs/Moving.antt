@@ -19,8 +19,8 @@ use Rattle.law_refinement.proofs.Places.{set_here}
 use Rattle.law_refinement.proofs.Linking.{open_stops}
 use Rattle.law_refinement.specs.Runs.{Happens, IsMoment, Run, an_event}
 use Rattle.law_refinement.proofs.Moments.{no_silent_difference}
-use Rattle.mr_world_parts.specs.declared.side.Side.{Side}
-use Rattle.mr_world_parts.specs.declared.side.Side.TheVariants as side
+use Rattle.mr_links.specs.declared.side.Side.{Side}
+use Rattle.mr_links.specs.declared.side.Side.TheVariants as side
 use Rattle.mr_world.specs.Hearing.{ListenCall}
 use Rattle.mr_world.specs.Calls.{LeaveCall, TakeCall}
 use Rattle.mr_world.specs.Linking.{DropCall}

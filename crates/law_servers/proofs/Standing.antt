@@ -27,8 +27,8 @@ use Rattle.law_refinement.proofs.Places.{set_here, set_there, some_is}
 use Rattle.mr_world_parts.specs.AtLink.{by_node}
 use Rattle.mr_world_parts.specs.AtNode.{is_spent}
 use Rattle.mr_world_parts.specs.Answering.{IsServing}
-use Rattle.mr_world_parts.specs.declared.side.Side.{Side}
-use Rattle.mr_world_parts.specs.declared.side.Side.TheVariants as side
+use Rattle.mr_links.specs.declared.side.Side.{Side}
+use Rattle.mr_links.specs.declared.side.Side.TheVariants as side
 use Rattle.mr_world.specs.Calls.{Breaks, Clients}
 use Rattle.mr_world.specs.Connecting.{DialCall, Dialled}
 use Rattle.mr_world.specs.Following.{Follows, HasHeard, IsFollower}

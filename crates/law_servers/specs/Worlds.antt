@@ -16,8 +16,8 @@ use Rattle.law_refinement.specs.Events.{IsRunning, IsWaiting}
 use Rattle.law_refinement.specs.Showing.{Shows}
 use Rattle.law_refinement.specs.Runs.{Happens}
 use Rattle.mr_world_parts.specs.AtNode.{is_spent}
-use Rattle.mr_world_parts.specs.declared.side.Side.{Side}
-use Rattle.mr_world_parts.specs.declared.side.Side.TheVariants as side
+use Rattle.mr_links.specs.declared.side.Side.{Side}
+use Rattle.mr_links.specs.declared.side.Side.TheVariants as side
 use Rattle.mr_world.specs.Calls.{ServesAt}
 use Rattle.mr_world.specs.Running.{EventCall, Outcome}
 use Rattle.mr_world.specs.declared.event.Event.{Event}

@@ -18,8 +18,8 @@ use Rattle.law_refinement.specs.Worlds.{HasMaster, IsWorld}
 use Rattle.law_refinement.specs.Carrying.{booked, fed_if, is_at, reached, said_by, said_on, shut_if}
 use Rattle.law_refinement.proofs.Places.{is_within, set_here, set_same, some_is}
 use Rattle.mr_world_parts.specs.AtNode.{is_spent}
-use Rattle.mr_world_parts.specs.declared.side.Side.{Side}
-use Rattle.mr_world_parts.specs.declared.side.Side.TheVariants as side
+use Rattle.mr_links.specs.declared.side.Side.{Side}
+use Rattle.mr_links.specs.declared.side.Side.TheVariants as side
 use Rattle.law_systems.specs.System.{Connection, Doing, End, IsAt, System, end_at, gives_up, is_taken, runs}
 use Rattle.law_systems.specs.Network.{HasEnd, end_of}
 use Rattle.law_systems.proofs.Mirrors.{IsLine, IsLive, IsSide, Mirrors}

@@ -14,8 +14,8 @@ use Rattle.law_refinement.proofs.Beginning.{restarts}
 use Rattle.law_refinement.proofs.Places.{set_cases, set_here, set_there, some_is}
 use Rattle.law_refinement.specs.Runs.{Happens, an_event}
 use Rattle.mr_world_parts.specs.AtLink.{shut_at}
-use Rattle.mr_world_parts.specs.declared.side.Side.{Side}
-use Rattle.mr_world_parts.specs.declared.side.Side.TheVariants as side
+use Rattle.mr_links.specs.declared.side.Side.{Side}
+use Rattle.mr_links.specs.declared.side.Side.TheVariants as side
 use Rattle.mr_world.proofs.Happened.{fresh}
 use Rattle.mr_world.proofs.Restarts.{restarts_world}
 use Rattle.law_systems.specs.System.{Connection, End, IsAt, Server, System, runs}

@@ -18,7 +18,7 @@ use Rattle.law_refinement.proofs.Places.{set_here}
 use Rattle.law_refinement.specs.Runs.{Happens}
 use Rattle.mr_world_parts.specs.AtNode.{is_spent}
 use Rattle.mr_world_parts.specs.Answering.{IsBehind}
-use Rattle.mr_world_parts.specs.declared.side.Side.TheVariants as side
+use Rattle.mr_links.specs.declared.side.Side.TheVariants as side
 use Rattle.mr_world.specs.declared.event.Event.TheVariants as event
 use Rattle.mr_world.specs.Serving.{ServedRow, ServesLink}
 use Rattle.mr_world.proofs.Feeding.{its_end}

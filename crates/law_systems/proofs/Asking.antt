@@ -22,8 +22,8 @@ use Rattle.law_refinement.proofs.Places.{push_here, set_here, set_there, some_is
 use Rattle.law_refinement.specs.Runs.{Happens}
 use Rattle.mr_world_parts.specs.AtNode.{is_spent}
 use Rattle.mr_world_parts.specs.Answering.{EndsAs}
-use Rattle.mr_world_parts.specs.declared.side.Side.{Side}
-use Rattle.mr_world_parts.specs.declared.side.Side.TheVariants as side
+use Rattle.mr_links.specs.declared.side.Side.{Side}
+use Rattle.mr_links.specs.declared.side.Side.TheVariants as side
 use Rattle.mr_world_parts.proofs.Places.{set_twice}
 use Rattle.mr_world.specs.Calls.{BreakCall, Breaks, ClientCall, Clients, CommandCall}
 use Rattle.mr_world.specs.Linking.{DeliverCall, Delivers}

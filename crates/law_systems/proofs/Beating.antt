@@ -19,8 +19,8 @@ use Rattle.law_refinement.specs.Worlds.{IsWorld}
 use Rattle.law_refinement.specs.Carrying.{booked, fed_if, reached, shut_if}
 use Rattle.law_refinement.proofs.Places.{some_is}
 use Rattle.mr_world_parts.specs.AtNode.{is_spent}
-use Rattle.mr_world_parts.specs.declared.side.Side.{Side}
-use Rattle.mr_world_parts.specs.declared.side.Side.TheVariants as side
+use Rattle.mr_links.specs.declared.side.Side.{Side}
+use Rattle.mr_links.specs.declared.side.Side.TheVariants as side
 use Rattle.law_servers.specs.Worlds.{IsServedAs, NoneOpen}
 use Rattle.law_systems.specs.System.{Connection, Doing, End, IsAt, System, gives_up, is_taken, runs}
 use Rattle.law_systems.specs.Network.{HasEnd, end_of}

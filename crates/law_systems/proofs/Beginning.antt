@@ -13,7 +13,7 @@ use Rattle.law_refinement.specs.Carrying.{begun_slot, started_with}
 use Rattle.law_refinement.proofs.Beginning.{starts}
 use Rattle.law_refinement.proofs.Places.{is_within, push_cases, push_here, push_old}
 use Rattle.law_refinement.specs.Runs.{Happens, an_event}
-use Rattle.mr_world_parts.specs.declared.side.Side.{Side}
+use Rattle.mr_links.specs.declared.side.Side.{Side}
 use Rattle.mr_world.proofs.Changing.{node_comes}
 use Rattle.mr_world.proofs.Happened.{fresh}
 use Rattle.law_systems.specs.System.{Connection, End, IsAt, Server, System, runs}

@@ -24,8 +24,8 @@ use Rattle.law_refinement.specs.Carrying.{connecting, waiting_link}
 use Rattle.law_refinement.proofs.Places.{is_within, some_is}
 use Rattle.law_refinement.specs.Runs.{Happens}
 use Rattle.mr_world_parts.specs.AtNode.{is_spent}
-use Rattle.mr_world_parts.specs.declared.side.Side.{Side}
-use Rattle.mr_world_parts.specs.declared.side.Side.TheVariants as side
+use Rattle.mr_links.specs.declared.side.Side.{Side}
+use Rattle.mr_links.specs.declared.side.Side.TheVariants as side
 use Rattle.law_servers.specs.Calling.{dial}
 use Rattle.law_servers.specs.Worlds.{Becomes, NoneOpen, CallsInWorld}
 use Rattle.law_servers.proofs.Moving.{servers_keep_worlds}

@@ -20,8 +20,8 @@ use Rattle.law_refinement.specs.Events.{IsRunning}
 use Rattle.law_refinement.proofs.Places.{set_same, some_is}
 use Rattle.law_refinement.specs.Runs as run
 use Rattle.mr_world_parts.specs.AtNode.{is_spent}
-use Rattle.mr_world_parts.specs.declared.side.Side.{Side}
-use Rattle.mr_world_parts.specs.declared.side.Side.TheVariants as side
+use Rattle.mr_links.specs.declared.side.Side.{Side}
+use Rattle.mr_links.specs.declared.side.Side.TheVariants as side
 use Rattle.mr_world.specs.Calls.{BreakCall, Breaks}
 use Rattle.mr_world.specs.Linking.{BreaksOff, DropCall}
 use Rattle.mr_world.proofs.Dialling.{drop_keeps}

@@ -15,7 +15,7 @@ use Rattle.mr_loop.specs.Causes.{HasInput}
 use Rattle.law_refinement.specs.State.{Link, Slot, WorldState}
 use Rattle.law_refinement.specs.Events.{IsRunning}
 use Rattle.law_refinement.proofs.Places.{is_within, some_is}
-use Rattle.mr_world_parts.specs.declared.side.Side.{Side}
+use Rattle.mr_links.specs.declared.side.Side.{Side}
 use Rattle.law_servers.specs.Worlds.{IsEndOf, NoneOpen, way_to}
 use Rattle.law_systems.specs.System.{Connection, End, IsAt, System, from_side, runs, to_side}
 use Rattle.law_systems.specs.Network.{HasEnd, end_of}

@@ -5,7 +5,7 @@ use Rattle.mr_connections.specs.State.{ConnectionState}
 use Rattle.mr_loop.specs.Stage.{Stage, connection_at}
 use Rattle.law_refinement.specs.State.{Link, Slot, WorldState}
 use Rattle.law_refinement.proofs.Places.{set_cases}
-use Rattle.mr_world_parts.specs.declared.side.Side.{Side}
+use Rattle.mr_links.specs.declared.side.Side.{Side}
 use Rattle.law_systems.specs.System.{Connection, End, IsAt, Server, System, rests, runs}
 use Rattle.law_systems.specs.Network.{HasEnd}
 use Rattle.law_systems.specs.Steps.{put_server}

@@ -10,8 +10,8 @@ use Rattle.law_refinement.specs.State.{Link, Slot, WorldState}
 use Rattle.law_refinement.specs.Worlds.{IsWorld}
 use Rattle.law_refinement.proofs.Places.{set_here, set_same, some_is}
 use Rattle.mr_world_parts.specs.AtNode.{is_spent}
-use Rattle.mr_world_parts.specs.declared.side.Side.{Side}
-use Rattle.mr_world_parts.specs.declared.side.Side.TheVariants as side
+use Rattle.mr_links.specs.declared.side.Side.{Side}
+use Rattle.mr_links.specs.declared.side.Side.TheVariants as side
 use Rattle.law_servers.specs.Worlds.{NoneOpen}
 use Rattle.law_systems.specs.System.{Connection, Doing, End, IsAt, System, end_at, gives_up, is_taken, runs}
 use Rattle.law_systems.specs.Network.{HasEnd, end_of}

@@ -11,7 +11,7 @@ use Rattle.law_refinement.specs.Carrying.{put_node}
 use Rattle.law_refinement.proofs.Places.{set_cases, set_here, set_there}
 use Rattle.law_refinement.specs.Runs.{Happens}
 use Rattle.mr_world_parts.specs.AtNode.{is_spent}
-use Rattle.mr_world_parts.specs.declared.side.Side.{Side}
+use Rattle.mr_links.specs.declared.side.Side.{Side}
 use Rattle.law_servers.specs.Worlds.{Halts}
 use Rattle.law_servers.proofs.Moving.{servers_keep_worlds}
 use Rattle.law_systems.specs.System.{Connection, End, IsAt, Server, System, gives_up, runs}

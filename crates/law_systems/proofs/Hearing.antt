@@ -34,7 +34,7 @@ use Rattle.law_refinement.specs.Carrying.{behind, followed, heard_as, put_node}
 use Rattle.law_refinement.proofs.Places.{set_here, some_is}
 use Rattle.law_refinement.specs.Runs.{Happens}
 use Rattle.mr_world_parts.specs.AtNode.{is_spent}
-use Rattle.mr_world_parts.specs.declared.side.Side.TheVariants as side
+use Rattle.mr_links.specs.declared.side.Side.TheVariants as side
 use Rattle.mr_world_parts.proofs.Places.{set_twice}
 use Rattle.mr_world.specs.Following.{Follows}
 use Rattle.mr_world.specs.declared.event.Event.TheVariants as event

@@ -16,7 +16,7 @@ use Rattle.law_refinement.specs.Worlds.{IsWorld, end_for}
 use Rattle.law_refinement.specs.Events.{IsRunning}
 use Rattle.law_refinement.proofs.Places.{set_same}
 use Rattle.mr_world.proofs.Feeding.{its_end}
-use Rattle.mr_world_parts.specs.declared.side.Side.TheVariants as side
+use Rattle.mr_links.specs.declared.side.Side.TheVariants as side
 use Rattle.law_servers.specs.Worlds.{IsServedAs}
 use Rattle.law_systems.specs.System.{Connection, Server, System, runs}
 use Rattle.law_systems.proofs.Wired.{IsWired}

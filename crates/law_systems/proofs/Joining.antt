@@ -33,8 +33,8 @@ use Rattle.law_refinement.proofs.Reading.{node_is, still_at}
 use Rattle.law_refinement.proofs.Seen.{same_each}
 use Rattle.law_refinement.specs.Runs as run
 use Rattle.mr_world_parts.specs.AtNode.{is_spent}
-use Rattle.mr_world_parts.specs.declared.side.Side.{Side}
-use Rattle.mr_world_parts.specs.declared.side.Side.TheVariants as side
+use Rattle.mr_links.specs.declared.side.Side.{Side}
+use Rattle.mr_links.specs.declared.side.Side.TheVariants as side
 use Rattle.mr_world.specs.Calls.{ClientCall, Clients}
 use Rattle.mr_world.proofs.Changing.{node_world}
 use Rattle.mr_world.proofs.Happened.{came}

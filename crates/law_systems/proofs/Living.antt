@@ -6,7 +6,7 @@ use Rattle.mr_connections.specs.State.{ConnectionState}
 use Rattle.mr_loop.specs.Stage.{Stage, connection_at}
 use Rattle.law_refinement.specs.State.{Link, Slot, WorldState}
 use Rattle.law_refinement.proofs.Places.{is_within}
-use Rattle.mr_world_parts.specs.declared.side.Side.{Side}
+use Rattle.mr_links.specs.declared.side.Side.{Side}
 use Rattle.law_systems.specs.System.{Connection, IsAt, System, runs}
 use Rattle.law_systems.specs.Network.{HasEnd, end_of}
 use Rattle.law_systems.proofs.Wired.{IsWired}

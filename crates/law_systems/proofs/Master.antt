@@ -21,8 +21,8 @@ use Rattle.law_refinement.specs.Worlds.{IsWorld, end_for}
 use Rattle.law_refinement.specs.Carrying.{heard_as}
 use Rattle.law_refinement.specs.Events.{IsRunning}
 use Rattle.law_refinement.proofs.Places.{some_is}
-use Rattle.mr_world_parts.specs.declared.side.Side.{Side}
-use Rattle.mr_world_parts.specs.declared.side.Side.TheVariants as side
+use Rattle.mr_links.specs.declared.side.Side.{Side}
+use Rattle.mr_links.specs.declared.side.Side.TheVariants as side
 use Rattle.mr_world.specs.Following.{IsFollower}
 use Rattle.mr_world.specs.Linking.{FollowsBy}
 use Rattle.law_servers.specs.Worlds.{IsServedAs, NoneOpen}

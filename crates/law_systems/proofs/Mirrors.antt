@@ -11,8 +11,8 @@ use Rattle.law_refinement.specs.State.{Link, Slot, WorldState, a_client, a_node}
 use Rattle.law_refinement.specs.Worlds.{IsWorld}
 use Rattle.law_refinement.specs.Runs.{Run, last_of}
 use Rattle.mr_world_parts.specs.AtNode.{is_spent}
-use Rattle.mr_world_parts.specs.declared.side.Side.{Side}
-use Rattle.mr_world_parts.specs.declared.side.Side.TheVariants as side
+use Rattle.mr_links.specs.declared.side.Side.{Side}
+use Rattle.mr_links.specs.declared.side.Side.TheVariants as side
 use Rattle.law_servers.specs.Worlds.{IsEndOf, IsFollowedAs, NoneOpen, way_to}
 use Rattle.law_systems.specs.System.{Connection, Doing, End, IsAt, Server, System, from_side, is_taken, to_side}
 use Rattle.law_systems.specs.Network.{Goes, HasEnd}

@@ -13,8 +13,8 @@ use Rattle.mr_loop.specs.Stage.{LoopState, Stage, connection_at}
 use Rattle.mr_loop.specs.Rows.{Happens, appends, closes, fails, finds_none, misses_tick, settles, waits, wakes, writes}
 use Rattle.law_refinement.specs.State.{Link, WorldState}
 use Rattle.law_refinement.proofs.Places.{set_same, some_is}
-use Rattle.mr_world_parts.specs.declared.side.Side.{Side}
-use Rattle.mr_world_parts.specs.declared.side.Side.TheVariants as side
+use Rattle.mr_links.specs.declared.side.Side.{Side}
+use Rattle.mr_links.specs.declared.side.Side.TheVariants as side
 use Rattle.law_systems.specs.System.{Connection, Doing, IsAt, System, end_at, from_side, gives_up, is_taken, runs, with_pipe_from}
 use Rattle.law_systems.specs.Network.{end_of, written_on}
 use Rattle.law_systems.proofs.Wired.{IsWired}

@@ -7,8 +7,8 @@ use Rattle.mr_node_spec.specs.State.{NodeState, end_of as node_end}
 use Rattle.law_refinement.specs.State.{Link, WorldState}
 use Rattle.law_refinement.specs.Carrying.{reached, settled, told}
 use Rattle.mr_world_parts.specs.Answering.{answered_links}
-use Rattle.mr_world_parts.specs.declared.side.Side.{Side}
-use Rattle.mr_world_parts.specs.declared.side.Side.TheVariants as side
+use Rattle.mr_links.specs.declared.side.Side.{Side}
+use Rattle.mr_links.specs.declared.side.Side.TheVariants as side
 use Rattle.law_systems.specs.System.{Connection, End, System}
 use Rattle.law_systems.specs.Network.{HasEnd}
 use Rattle.law_systems.proofs.Mirrors.{IsLine, Mirrors}

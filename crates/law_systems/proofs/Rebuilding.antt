@@ -9,8 +9,8 @@ use Rattle.law_refinement.specs.Worlds.{IsWorld}
 use Rattle.law_refinement.proofs.Places.{is_within, push_cases, set_cases, set_here, set_there, some_is}
 use Rattle.law_refinement.proofs.Reading.{number_or}
 use Rattle.mr_world_parts.specs.AtNode.{is_spent}
-use Rattle.mr_world_parts.specs.declared.side.Side.{Side}
-use Rattle.mr_world_parts.specs.declared.side.Side.TheVariants as side
+use Rattle.mr_links.specs.declared.side.Side.{Side}
+use Rattle.mr_links.specs.declared.side.Side.TheVariants as side
 use Rattle.law_servers.specs.Worlds.{IsEndOf, IsFollowedAs, NoneOpen, way_to}
 use Rattle.law_systems.specs.System.{Connection, Doing, End, IsAt, Server, System, end_at, from_side, gives_up, is_taken, runs, to_side}
 use Rattle.law_systems.specs.Network.{HasEnd, end_of}

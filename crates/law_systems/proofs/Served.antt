@@ -13,7 +13,7 @@ use Rattle.law_refinement.specs.State.{Link, Slot, WorldState}
 use Rattle.law_refinement.specs.Carrying.{behind, put_node, stepped}
 use Rattle.law_refinement.specs.Events.{IsRunning}
 use Rattle.law_refinement.proofs.Places.{set_here}
-use Rattle.mr_world_parts.specs.declared.side.Side.TheVariants as side
+use Rattle.mr_links.specs.declared.side.Side.TheVariants as side
 use Rattle.mr_world_parts.proofs.Places.{set_twice}
 use Rattle.law_systems.specs.System.{System, is_taken, runs}
 use Rattle.law_systems.proofs.Wired.{IsWired}

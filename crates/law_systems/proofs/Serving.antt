@@ -19,8 +19,8 @@ use Rattle.law_refinement.specs.State.{Link, Slot, WorldState}
 use Rattle.law_refinement.specs.Carrying.{behind, fed_if, put_node, reached, settled, shut_if, stepped, told}
 use Rattle.law_refinement.proofs.Places.{some_is}
 use Rattle.mr_world_parts.specs.Answering.{EndsAs, answered_links}
-use Rattle.mr_world_parts.specs.declared.side.Side.{Side}
-use Rattle.mr_world_parts.specs.declared.side.Side.TheVariants as side
+use Rattle.mr_links.specs.declared.side.Side.{Side}
+use Rattle.mr_links.specs.declared.side.Side.TheVariants as side
 use Rattle.law_servers.specs.Worlds.{IsServedAs, NoneOpen}
 use Rattle.law_systems.specs.System.{Connection, End, IsAt, System, is_taken}
 use Rattle.law_systems.specs.Network.{HasEnd, end_of}

@@ -11,7 +11,7 @@ use Rattle.mr_loop.specs.Giving.{listed}
 use Rattle.mr_loop.specs.Rows.{Spills, Tears, spills, tears}
 use Rattle.law_refinement.specs.State.{Link, Slot, WorldState}
 use Rattle.law_refinement.specs.Carrying.{behind, stepped}
-use Rattle.mr_world_parts.specs.declared.side.Side.TheVariants as side
+use Rattle.mr_links.specs.declared.side.Side.TheVariants as side
 use Rattle.law_systems.specs.System.{IsAt, System, gives_up, is_taken}
 use Rattle.law_systems.proofs.Wired.{IsWired}
 use Rattle.law_systems.proofs.Mirrors.{IsTurn, Leads, Mirrors}

@@ -6,8 +6,8 @@ use Rattle.mr_connections.specs.State.{ConnectionState}
 use Rattle.law_refinement.specs.State.{Link, Slot, WorldState}
 use Rattle.law_refinement.specs.Carrying.{shut_if}
 use Rattle.law_refinement.proofs.Places.{some_is}
-use Rattle.mr_world_parts.specs.declared.side.Side.{Side}
-use Rattle.mr_world_parts.specs.declared.side.Side.TheVariants as side
+use Rattle.mr_links.specs.declared.side.Side.{Side}
+use Rattle.mr_links.specs.declared.side.Side.TheVariants as side
 use Rattle.law_servers.specs.Worlds.{IsEndOf, IsServedAs}
 use Rattle.law_systems.specs.System.{Connection}
 use Rattle.law_systems.proofs.Mirrors.{IsLive, IsSide}

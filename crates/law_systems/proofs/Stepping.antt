@@ -14,8 +14,8 @@ use Rattle.mr_loop.specs.Causes.{HasInput, at_step}
 use Rattle.mr_loop.specs.Rows.{Happens, acts, idles, is_refused, spills, tears}
 use Rattle.law_refinement.specs.State.{WorldState}
 use Rattle.law_refinement.proofs.Places.{some_is}
-use Rattle.mr_world_parts.specs.declared.side.Side.{Side}
-use Rattle.mr_world_parts.specs.declared.side.Side.TheVariants as side
+use Rattle.mr_links.specs.declared.side.Side.{Side}
+use Rattle.mr_links.specs.declared.side.Side.TheVariants as side
 use Rattle.law_systems.specs.System.{IsAt, System}
 use Rattle.law_systems.proofs.Wired.{IsWired}
 use Rattle.law_systems.proofs.Mirrors.{IsTurn, Leads, Mirrors}

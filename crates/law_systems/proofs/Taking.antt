@@ -24,8 +24,8 @@ use Rattle.law_refinement.specs.Events.{IsRunning}
 use Rattle.law_refinement.proofs.Places.{set_here, set_same, some_is}
 use Rattle.law_refinement.proofs.Unread.{drop_front, take_front}
 use Rattle.mr_world_parts.specs.AtNode.{is_spent}
-use Rattle.mr_world_parts.specs.declared.side.Side.{Side}
-use Rattle.mr_world_parts.specs.declared.side.Side.TheVariants as side
+use Rattle.mr_links.specs.declared.side.Side.{Side}
+use Rattle.mr_links.specs.declared.side.Side.TheVariants as side
 use Rattle.mr_world.specs.Calls.{CommandCall, put_link}
 use Rattle.mr_world.specs.Linking.{DeliverCall, Delivers}
 use Rattle.mr_world.specs.Hearing.{ListenCall, Tells}

@@ -12,7 +12,7 @@ use Rattle.law_refinement.specs.State.{Link}
 use Rattle.law_refinement.specs.Carrying.{fed_if, is_at, reached, settled, shut_if, told}
 use Rattle.law_refinement.proofs.Open.{eqb_no, eqb_yes}
 use Rattle.law_refinement.proofs.Places.{set_cases}
-use Rattle.mr_world_parts.specs.declared.side.Side.TheVariants as side
+use Rattle.mr_links.specs.declared.side.Side.TheVariants as side
 use Rattle.law_systems.specs.System.{Connection}
 use Rattle.law_systems.proofs.Mirrors.{IsLine}
 use Rattle.law_systems.proofs.Rebuilding.{SameHalf}

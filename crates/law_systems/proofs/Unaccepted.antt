@@ -4,8 +4,8 @@ use Rattle.std.specs.Prelude.{slice_get, slice_set}
 use Rattle.law_refinement.proofs.Places.{push_cases, set_cases}
 use Rattle.mr_loop.specs.Causes.{Act, at_dial, at_step, at_tick}
 use Rattle.mr_loop.specs.Rows.{Event, acts, joins, spills, takes, tears, writes}
-use Rattle.mr_world_parts.specs.declared.side.Side.{Side}
-use Rattle.mr_world_parts.specs.declared.side.Side.TheVariants as side
+use Rattle.mr_links.specs.declared.side.Side.{Side}
+use Rattle.mr_links.specs.declared.side.Side.TheVariants as side
 use Rattle.law_systems.specs.System.{Connection, End, System, accepted_by, dialled_by, end_at, from_side, no_system, of_client, of_itself, to_side, with_pipe_from, with_pipe_to}
 use Rattle.law_systems.specs.Network.{Accepts, Goes, GoesBy, Reads, end_of, read_on, written_on}
 use Rattle.law_systems.specs.Steps.{Step}

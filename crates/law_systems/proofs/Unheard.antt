@@ -29,7 +29,7 @@ use Rattle.law_refinement.proofs.Places.{set_here, set_same, some_is}
 use Rattle.law_refinement.specs.Runs.{Happens}
 use Rattle.mr_world_parts.specs.AtLink.{by_node}
 use Rattle.mr_world_parts.specs.AtNode.{is_spent}
-use Rattle.mr_world_parts.specs.declared.side.Side.TheVariants as side
+use Rattle.mr_links.specs.declared.side.Side.TheVariants as side
 use Rattle.mr_world_parts.proofs.Places.{set_twice}
 use Rattle.mr_world.specs.Calls.{LeaveCall}
 use Rattle.mr_world.specs.Following.{Follows, IsFollower}

@@ -3,7 +3,7 @@ use Rattle.std.proofs.Common.{◌≡◌, ◌≤◌, ◌<◌, ℕ, true, Some}
 use Rattle.std.specs.Prelude.{slice_get}
 use Rattle.mr_links.specs.declared.link_id.LinkId.{LinkId}
 use Rattle.mr_connections.specs.State.{AreToldApart, ConnectionState}
-use Rattle.mr_world_parts.specs.declared.side.Side.{Side}
+use Rattle.mr_links.specs.declared.side.Side.{Side}
 use Rattle.mr_loop.specs.Stage.{Stage, connection_at}
 use Rattle.law_systems.specs.System.{Connection, End, IsAt, Server, System}
 use Rattle.law_systems.specs.Network.{HasEnd, end_of}

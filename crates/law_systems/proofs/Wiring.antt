@@ -4,7 +4,7 @@ use Rattle.std.specs.Prelude.{slice_get, slice_set}
 use Rattle.std.specs.FinMap.{empty}
 use Rattle.mr_links.specs.declared.link_id.LinkId.{LinkId}
 use Rattle.mr_connections.specs.State.{ConnectionState}
-use Rattle.mr_world_parts.specs.declared.side.Side.{Side}
+use Rattle.mr_links.specs.declared.side.Side.{Side}
 use Rattle.mr_keyspace.specs.Dataset.{Dataset}
 use Rattle.mr_node_spec.specs.State.{Core, NodeState}
 use Rattle.mr_loop.specs.declared.fault.LoopFault.{LoopFault}

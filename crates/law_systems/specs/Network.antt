@@ -3,7 +3,7 @@
 -- may break at any time and at either end; and bytes that nobody reads are lost.
 use Rattle.std.specs.Prelude.{◌≡◌, ◌≤◌, ◌+◌, ◌++◌, ℕ, List, [], ◌∷◌, None, Some, length, take, drop, slice_get, slice_set}
 use Rattle.mr_links.specs.declared.link_id.LinkId.{LinkId}
-use Rattle.mr_world_parts.specs.declared.side.Side.{Side}
+use Rattle.mr_links.specs.declared.side.Side.{Side}
 use Rattle.mr_loop.specs.Causes.{Act, at_dial, at_step, at_tick}
 use Rattle.mr_loop.specs.Rows.{Event, acts, joins, spills, takes, tears, writes}
 use Rattle.law_systems.specs.System.{Connection, End, Pipe, accepted_by, dialled_by, end_at, from_side, of_client, to_side, with_pipe_from, with_pipe_to}

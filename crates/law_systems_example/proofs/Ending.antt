@@ -13,7 +13,7 @@ use Rattle.mr_follower.specs.declared.phase.Phase.TheVariants as phase
 use Rattle.mr_node_links.specs.State.EndState.{client}
 use Rattle.mr_node_spec.specs.State.{Core}
 use Rattle.mr_node_spec.specs.Growing.{rebuilt}
-use Rattle.mr_world_parts.specs.declared.side.Side.TheVariants as side
+use Rattle.mr_links.specs.declared.side.Side.TheVariants as side
 use Rattle.mr_loop.specs.Rows.{Event, acts, joins, takes}
 use Rattle.mr_loop.specs.Stage.{Stage}
 use Rattle.law_minired.specs.Snapshots.{IsReadAs}

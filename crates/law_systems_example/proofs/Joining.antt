@@ -13,7 +13,7 @@ use Rattle.mr_node_output.specs.Outs.{no_output, send, sent_outs}
 use Rattle.mr_node_spec.specs.State.{Core}
 use Rattle.mr_node_spec.specs.Served.{Answered}
 use Rattle.mr_node_spec.specs.Telling.{Around}
-use Rattle.mr_world_parts.specs.declared.side.Side.TheVariants as side
+use Rattle.mr_links.specs.declared.side.Side.TheVariants as side
 use Rattle.mr_loop.specs.Rows.{Event, acts, takes, writes}
 use Rattle.mr_loop.specs.Stage.{Stage}
 use Rattle.law_systems.specs.System.{Connection, Pipe, System, of_client, of_itself, runs}

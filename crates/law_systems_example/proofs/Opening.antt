@@ -13,7 +13,7 @@ use Rattle.mr_follower.specs.Handshake.{ping_line}
 use Rattle.mr_follower.specs.declared.phase.Phase.TheVariants as phase
 use Rattle.mr_node_links.specs.State.EndState.{client, upstream}
 use Rattle.mr_node_spec.specs.State.{Core, NodeState}
-use Rattle.mr_world_parts.specs.declared.side.Side.TheVariants as side
+use Rattle.mr_links.specs.declared.side.Side.TheVariants as side
 use Rattle.mr_loop.specs.Causes.{at_dial}
 use Rattle.mr_loop.specs.Rows.{Event, acts, appends, joins, takes, writes}
 use Rattle.mr_loop.specs.Stage.{Stage}

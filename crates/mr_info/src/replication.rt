@@ -3,7 +3,7 @@ ghost use Rattle.std.specs.Prelude.{◌≡◌, ◌++◌, IfOk, OnOk, codes, deci
 ghost use Rattle.mr_info.specs.Info.{info_text, line, role_text, second_id_text, second_offset_text};
 
 use itoa::Buffer;
-use mr_repl::{Backlog, ReplId};
+use mr_repl::{Lineage, ReplId};
 use std::alloc::{AllocError, Global};
 
 /// The digits of the id that stands for none.
@@ -19,18 +19,16 @@ pub fn info(
     alloc: Global,
     replica: bool,
     followers: usize,
-    id: ReplId,
-    second: Option<(ReplId, u64)>,
-    stream: &Backlog,
+    lineage: &Lineage,
 ) -> Result<Vec<u8>, AllocError>
-    ensures { IfOk result (λ text.
-        text.items ≡
-        info_text replica followers (record { id = id; second = second; stream = stream.now })) }
+    ensures { IfOk result (λ text. text.items ≡ info_text replica followers lineage.now) }
 {
+    let stream = lineage.stream();
+    let second = lineage.second();
     let mut text = Vec::from_slice(alloc, b"# Replication\r\n")?;
     push_field(&mut text, b"role", role_text(replica))?;
     push_number(&mut text, b"connected_slaves", followers as u64)?;
-    push_field(&mut text, b"master_replid", &id.digits())?;
+    push_field(&mut text, b"master_replid", &lineage.id().digits())?;
     push_second_id(&mut text, &second)?;
     push_number(&mut text, b"master_repl_offset", stream.end())?;
     push_second_offset(&mut text, &second)?;

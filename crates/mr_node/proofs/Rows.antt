@@ -4,6 +4,7 @@ use Rattle.std.specs.List.{AllByRecursion}
 use Rattle.std.specs.FinMap.{empty}
 use Rattle.std.proofs.Common.{◌≡◌, ◌<◌, ◌≤◌, ℕ, List, [], true, not, drop, map, Option, None, Some, refl, sym, ap, subst, ◌∙◌}
 use Rattle.std.proofs.lemmas.List.{length-map}
+use Rattle.mr_commands.specs.Transactions.{past_limit}
 use Rattle.mr_links.specs.declared.link_id.LinkId.{LinkId}
 use Rattle.mr_resp.specs.Replies.{error, reply_text}
 use Rattle.mr_resp.specs.Faults.{fault_text}
@@ -26,7 +27,7 @@ use Rattle.mr_node_links.specs.Replicas.{Lists}
 use Rattle.mr_node_output.specs.Outs.{Output, no_outs, no_output, growth, outs_with}
 use Rattle.mr_node_spec.specs.State.{NodeState, end_of}
 use Rattle.mr_node_spec.specs.Requests.{IsDoomedBy}
-use Rattle.mr_node_spec.specs.Growing.{FedTo, Remakes, grown_by, offset_behind, limit_text}
+use Rattle.mr_node_spec.specs.Growing.{FedTo, Remakes, grown_by, offset_behind}
 use Rattle.mr_node_spec.specs.Ends.{Leaves}
 use Rattle.mr_node_spec.specs.Telling.{Around, IsAround, link_of, reply_about}
 use Rattle.mr_node_spec.specs.Served.{Answered, Served, left_of, rewritten_as, says}
@@ -123,9 +124,9 @@ lacks_words u used words r = MayLack.asks words (drop used u) r.asks
 
 -- ---- plans
 pub beyond_row : (a b : NodeState) (l : LinkId) (u : List ℕ) (given : Given) (fresh : List ℕ) (used : ℕ) (p : Plan) → IsAt a l u → Runs (not a.core.master) u given a.core.held used p
-    → offset_limit < offset_behind p.effects.items a.core → Uses a l used b → ClientRow a l u given fresh b (outs_with (Some l) (says (error limit_text)))
+    → offset_limit < offset_behind p.effects.items a.core → Uses a l used b → ClientRow a l u given fresh b (outs_with (Some l) (says past_limit))
 beyond_row a b l u given fresh used p at r beyond uses =
-    serve_row a b l u given fresh used (says (error limit_text)) (around_of a uses.names) at uses (is_around_of a uses.names uses.listed) refl
+    serve_row a b l u given fresh used (says past_limit) (around_of a uses.names) at uses (is_around_of a uses.names uses.listed) refl
     (Served.request r.words r.reads.asks (Answered.beyond r.plain (view p.reply) p.effects.items r.plan beyond uses.core refl))
 
 -- the effects are applied, and their texts sent to all replicas

@@ -1,7 +1,8 @@
 -- What the parts of a step do.
 use Rattle.std.specs.Prelude.{◌≡◌, ◌≤◌, ◌<◌, ℕ, ℤ, List, [], Bool, true, false, not, Some, length, if◌then◌else◌}
+use Rattle.mr_commands.specs.Transactions.{past_limit}
 use Rattle.mr_links.specs.declared.link_id.LinkId.{LinkId}
-use Rattle.mr_resp.specs.Replies.{Tree, error, reply_text}
+use Rattle.mr_resp.specs.Replies.{Tree, reply_text}
 use Rattle.mr_keyspace.specs.Dataset.{Dataset}
 use Rattle.mr_effect.specs.Spelling.{texts}
 use Rattle.mr_effect.specs.declared.effect.Effect.{Effect}
@@ -17,7 +18,7 @@ use Rattle.mr_node_output.specs.Outs.{Output, OutsState}
 use Rattle.mr_node_spec.specs.State.{Core, IsNode, NodeState, end_of}
 use Rattle.mr_node_spec.specs.ClientRows.{IsAnswerToPsync}
 use Rattle.mr_node_spec.specs.Ends.{Leaves}
-use Rattle.mr_node_spec.specs.Growing.{FedTo, grown_by, offset_behind, limit_text}
+use Rattle.mr_node_spec.specs.Growing.{FedTo, grown_by, offset_behind}
 use Rattle.mr_info.specs.Info.{info_text}
 use Rattle.mr_node_spec.specs.Telling.{Around, IsAround, answer_about, link_of}
 use Rattle.mr_node_spec.specs.Served.{IsQuiet}
@@ -38,7 +39,7 @@ pub record Uses (a : NodeState) (l : LinkId) (used : ℕ) (b : NodeState) : Type
 -- what is written for a plan: its reply, with the texts of its effects where there is room for them
 abbrev pub Tells : Core → Tree → List Effect → OutsState → Bool → OutsState → Type 0
 Tells c reply effects old true new = (offset_behind effects c ≤ offset_limit) × (new ≡ record old { grown = texts effects; appended = texts effects; reply = reply_text reply })
-Tells c reply effects old false new = (offset_limit < offset_behind effects c) × (new ≡ record old { reply = reply_text (error limit_text) })
+Tells c reply effects old false new = (offset_limit < offset_behind effects c) × (new ≡ record old { reply = reply_text past_limit })
 
 -- nothing was put out yet
 pub record AreEmpty (outs : OutsState) : Type 0 where

@@ -1,11 +1,9 @@
 // Replies that are always the same.
 ghost use Rattle.std.specs.Prelude.{◌≡◌};
-ghost use Rattle.mr_resp.specs.Replies.{error};
 ghost use Rattle.mr_resp.specs.ReplyView.{view};
 ghost use Rattle.mr_cmd_shared.specs.Answered.{done};
 ghost use Rattle.mr_cmd_server.specs.Commands.{rewriting};
-ghost use Rattle.mr_commands.specs.Transactions.{aborted, discard_alone, exec_alone, nested, queued};
-ghost use Rattle.mr_node_spec.specs.Growing.{limit_text};
+ghost use Rattle.mr_commands.specs.Transactions.{aborted, discard_alone, exec_alone, nested, past_limit, queued};
 ghost use Rattle.mr_node_spec.specs.Served.{not_chained};
 
 use mr_resp::Reply;
@@ -27,7 +25,7 @@ pub(crate) fn rewriting() -> Reply
 
 /// A request's effects would carry the offset past its limit.
 pub(crate) fn past_the_limit() -> Reply
-    ensures { view result ≡ error limit_text }
+    ensures { view result ≡ past_limit }
 {
     Reply::Error(CowSlice::Borrowed(b"ERR offset limit"))
 }

@@ -1,5 +1,5 @@
 -- How a node's stream grows, and what makes its dataset again.
-use Rattle.std.specs.Prelude.{◌≡◌, ◌+◌, ℕ, List, [], ◌∷◌, All, Some, length, codes}
+use Rattle.std.specs.Prelude.{◌≡◌, ◌+◌, ℕ, List, [], ◌∷◌, All, Some, length}
 use Rattle.std.specs.FinMap.{empty}
 use Rattle.mr_links.specs.declared.link_id.LinkId.{LinkId}
 use Rattle.mr_repl.specs.Lineage.{grown}
@@ -12,9 +12,6 @@ use Rattle.mr_data.specs.Meaning.{apply_all}
 use Rattle.mr_data.specs.Rebuilding.{rebuilding}
 use Rattle.mr_node_links.specs.Replicas.{Lists}
 use Rattle.mr_node_spec.specs.State.{Core, NodeState}
-
-abbrev pub limit_text : List ℕ
-limit_text = codes "ERR offset limit"
 
 -- the offset behind the texts of effects
 abbrev pub offset_behind : List Effect → Core → ℕ

@@ -13,12 +13,12 @@ use Rattle.mr_cmd_node.specs.declared.node_ask.NodeAsk.TheVariants as node
 use Rattle.mr_cmd_server.specs.Commands.{rewriting}
 use Rattle.mr_cmd_server.specs.declared.question.Question.{Question}
 use Rattle.mr_cmd_shared.specs.Answered.{done}
-use Rattle.mr_commands.specs.Transactions.{discard_alone, exec_alone}
+use Rattle.mr_commands.specs.Transactions.{discard_alone, exec_alone, past_limit}
 use Rattle.mr_commands.specs.Requests.{AsksNode, HasPlan, IsPlain, left, question_in, rewrites}
 use Rattle.mr_node_output.specs.Outs.{Output, no_output, growth}
 use Rattle.mr_node_spec.specs.State.{Core}
 use Rattle.mr_node_spec.specs.Requests.{Asks, AsksNothing}
-use Rattle.mr_node_spec.specs.Growing.{Remakes, grown_by, offset_behind, limit_text, rebuilt}
+use Rattle.mr_node_spec.specs.Growing.{Remakes, grown_by, offset_behind, rebuilt}
 use Rattle.mr_node_spec.specs.Telling.{Around, reply_about}
 
 -- what a request leaves of a node's dataset
@@ -60,7 +60,7 @@ pub data Answered (c : Core) (around : Around) (words : List (List ℕ)) (given 
       → d ≡ grown_by effects (left_of c words given) c → out ≡ record (growth (texts effects)) { said = reply_text reply } → Answered c around words given d out
   -- they would carry the offset past its limit: it is told so, and nothing is done
   beyond : IsPlain words → (reply : Tree) (effects : List Effect) → HasPlan (not c.master) c.held words given reply effects → offset_limit < offset_behind effects c
-      → d ≡ c → out ≡ says (error limit_text) → Answered c around words given d out
+      → d ≡ c → out ≡ says past_limit → Answered c around words given d out
   -- the append-only file is replaced by what makes the dataset again, on a master and on a replica
   rewritten : rewrites words ≡ true → Remakes (rebuilding c.held) c.held → d ≡ c → out ≡ rewritten_as c.held → Answered c around words given d out
   -- the node tells of itself, and nothing changes

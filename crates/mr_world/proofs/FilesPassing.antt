@@ -8,7 +8,7 @@ use Rattle.law_refinement.proofs.Beginning.{worlds_begin}
 use Rattle.law_refinement.proofs.Places.{is_within}
 use Rattle.law_files.specs.Worlds.{FileBegins, FileGoesOn, FilesGoOn, GoOn, HasGrown}
 use Rattle.law_files.proofs.Worlds.{files_are_true, grown_on, same_grown}
-use Rattle.mr_world_parts.specs.declared.side.Side.TheVariants as side
+use Rattle.mr_links.specs.declared.side.Side.TheVariants as side
 use Rattle.mr_world.specs.declared.event.Event.{Event}
 use Rattle.mr_world.specs.declared.event.Event.TheVariants as event
 use Rattle.mr_world.specs.declared.refusal.Refusal.{Refusal}

@@ -14,15 +14,14 @@ use Rattle.law_refinement.specs.Seeing.{seen}
 use Rattle.law_refinement.specs.Books.{entry_of, IsBook}
 use Rattle.law_refinement.specs.Carrying.{fed_caller, restarted_with}
 use Rattle.law_refinement.specs.Events.{IsEvent, Holds}
-use Rattle.law_refinement.specs.OwnEnds.{IsAClients}
 use Rattle.law_refinement.proofs.Beginning.{starts, restarts}
 use Rattle.law_refinement.proofs.Linking.{opens, open_stops, server_feeds, master_feeds, server_breaks, master_breaks}
 use Rattle.law_refinement.proofs.ClientEnds.{commands, client_feeds, client_breaks}
 use Rattle.law_refinement.proofs.Times.{ticks, tick_stops}
 use Rattle.law_refinement.specs.Runs.{Happens, an_event, nothing_seen}
 use Rattle.mr_world_parts.specs.AtNode.{is_spent}
-use Rattle.mr_world_parts.specs.declared.side.Side.TheVariants as side
-use Rattle.mr_world.specs.Calls.{AsksAt, BreakCall, Breaks, ClientCall, Clients, CommandCall, LeaveCall, StartCall, TakeCall}
+use Rattle.mr_links.specs.declared.side.Side.TheVariants as side
+use Rattle.mr_world.specs.Calls.{BreakCall, Breaks, ClientCall, Clients, CommandCall, LeaveCall, StartCall, TakeCall}
 use Rattle.mr_world.specs.Linking.{BreaksOff, DeliverCall, Delivers, DropCall}
 use Rattle.mr_world.specs.Hearing.{ListenCall, Tells}
 use Rattle.mr_world.specs.Stepping.{TickCall, Ticks}
@@ -64,17 +63,14 @@ module _ (w v : WorldState) where
   came n done (Clients.stops c) = an (events.Event.Client n) _ c.is (λ book holds. open_stops w book n c.slot (stopped_as c.slot.node) holds c.running refl)
   came n done (Clients.rests d is) = nothing is
 
-  own : (l : ℕ) (k : Link) → AsksAt w l k → IsAClients w l k
-  own l k at = record { found = at.found; asking = at.asking }
-
   pub sent : (l : ℕ) (bytes : List ℕ) (done : Unit {0}) → CommandCall w l bytes v (Ok done) → Happens w v
-  sent l bytes done c = an (events.Event.Command l bytes) _ c.is (λ book holds. commands w book l c.link bytes holds (own l c.link c.at))
+  sent l bytes done c = an (events.Event.Command l bytes) _ c.is (λ book holds. commands w book l c.link bytes holds c.at)
 
   pub took : (l count : ℕ) (done : Unit {0}) → TakeCall w l count v (Ok done) → Happens w v
-  took l count done c = an (events.Event.Deliver l Dialler count) _ c.is (λ book holds. client_feeds w book l c.link count holds (own l c.link c.at) c.sent)
+  took l count done c = an (events.Event.Deliver l Dialler count) _ c.is (λ book holds. client_feeds w book l c.link count holds c.at c.sent)
 
   pub left : (l : ℕ) (done : Unit {0}) → LeaveCall w l v (Ok done) → Happens w v
-  left l done c = an (events.Event.Break l Dialler) _ c.is (λ book holds. client_breaks w book l c.link holds (own l c.link c.at))
+  left l done c = an (events.Event.Break l Dialler) _ c.is (λ book holds. client_breaks w book l c.link holds c.at)
 
   pub broke : (l : ℕ) (done : Unit {0}) → BreakCall w l v (Ok done) → Happens w v
   broke l done (Breaks.closes c) = an (events.Event.Break l Server) _ c.is (λ book holds. server_breaks w book l c.link c.slot _ holds c.served refl)

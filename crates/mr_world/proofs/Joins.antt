@@ -12,9 +12,10 @@ use Rattle.law_refinement.specs.Carrying.{opened_link}
 use Rattle.law_refinement.specs.Worlds.{IsWorld}
 use Rattle.law_refinement.specs.Events.{IsRunning}
 use Rattle.law_refinement.proofs.Places.{is_within, some_is}
+use Rattle.law_refinement.specs.OwnEnds.{IsAClients}
 use Rattle.mr_world_parts.specs.AtLink.{IsAsking}
 use Rattle.mr_world_parts.proofs.Places.{stands}
-use Rattle.mr_world.specs.Calls.{Breaks, Clients, IsDown, Runs, StopsForLinks, AsksAt, NoneAsks, Sends, Takes, WereNotSent, Leaves, put_link}
+use Rattle.mr_world.specs.Calls.{Breaks, Clients, IsDown, Runs, StopsForLinks, NoneAsks, Sends, Takes, WereNotSent, Leaves, put_link}
 
 pub put_same : {A : Type 0} (xs : List A) (i : ℕ) (x t : A) → x ≡ get_or xs i x → t ≡ x → slice_set xs i t ≡ xs
 put_same xs i x t r e = ap (λ z. slice_set xs i z) (e ∙ r) ∙ set-get_or xs i x
@@ -69,7 +70,7 @@ module _ (w : WorldState) (n : ℕ) (x : Slot) (within : n < length w.slots) (sl
 
 -- ---- what a client sends
 module _ (w : WorldState) (l : ℕ) (x : Link) (within : l < length w.links) (link : x ≡ get_or w.links l x) where
-  pub asks_here : IsAsking x → AsksAt w l x
+  pub asks_here : IsAsking x → IsAClients w l x
   asks_here asking = record { found = stands w.links l x within link; asking = asking }
 
   pub none_asks : (IsAsking x → ⊥) → NoneAsks w l

@@ -30,7 +30,7 @@ use Rattle.law_refinement.proofs.Places.{set_here, set_there, some_is}
 use Rattle.law_refinement.proofs.Open.{eqb_yes}
 use Rattle.law_refinement.proofs.Unaccepted.{served_not_waiting}
 use Rattle.law_refinement.specs.Runs.{last_of}
-use Rattle.mr_world_parts.specs.declared.side.Side.TheVariants as side
+use Rattle.mr_links.specs.declared.side.Side.TheVariants as side
 use Rattle.mr_world.specs.declared.event.Event.{Event}
 use Rattle.mr_world.specs.declared.event.Event.TheVariants as event
 use Rattle.mr_world.specs.Calls.{Clients, ClientCall, CommandCall, TakeCall, LeaveCall, Breaks, BreakCall}

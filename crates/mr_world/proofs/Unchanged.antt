@@ -6,7 +6,7 @@ use Rattle.law_refinement.specs.Books.{IsBook}
 use Rattle.law_refinement.specs.Worlds.{IsWorld}
 use Rattle.law_refinement.proofs.Waiting.{lacks_keep}
 use Rattle.law_refinement.specs.Runs.{Happens, nothing_seen}
-use Rattle.mr_world_parts.specs.declared.side.Side.TheVariants as side
+use Rattle.mr_links.specs.declared.side.Side.TheVariants as side
 use Rattle.mr_world.specs.declared.event.Event.{Event}
 use Rattle.mr_world.specs.declared.event.Event.TheVariants as event
 use Rattle.mr_world.specs.declared.refusal.Refusal.{Refusal}

@@ -9,7 +9,7 @@ use Rattle.law_refinement.specs.Way.{sent_on, taken_on}
 use Rattle.law_refinement.specs.State.{a_client, Link, Slot, WorldState}
 use Rattle.law_refinement.specs.Events.{IsRunning, IsServed}
 use Rattle.law_refinement.specs.Carrying.{begun_slot, broken, opened, put_node, started_with}
-use Rattle.mr_world_parts.specs.AtLink.{IsAsking}
+use Rattle.law_refinement.specs.OwnEnds.{IsAClients}
 use Rattle.mr_world_parts.specs.AtNode.{is_spent}
 use Rattle.mr_world.specs.declared.refusal.Refusal.{Refusal}
 use Rattle.mr_world.specs.declared.refusal.Refusal.TheVariants as refusal
@@ -63,14 +63,9 @@ ClientCall w n v (Err refusal.Drawn) = ⊥
 ClientCall w n v (Err refusal.TooMuch) = ⊥
 ClientCall w n v (Err refusal.InputFull) = ⊥
 
--- The link is a client's, whose end is open, and stands at this place.
-pub record AsksAt (w : WorldState) (l : ℕ) (k : Link) : Type 0 where
-  pub found : slice_get w.links l ≡ Some k
-  pub asking : IsAsking k
-
 -- There is no such end of a client.
 abbrev pub NoneAsks : WorldState → ℕ → Type 0
-NoneAsks w l = (k : Link) → AsksAt w l k → ⊥
+NoneAsks w l = (k : Link) → IsAClients w l k → ⊥
 
 -- the World with another link in the place of one
 abbrev pub put_link : WorldState → ℕ → Link → WorldState
@@ -79,13 +74,13 @@ put_link w l k = record w { links = slice_set w.links l k }
 -- a client sends bytes
 pub record Sends (w : WorldState) (l : ℕ) (bytes : List ℕ) (v : WorldState) : Type 0 where
   pub link : Link
-  pub at : AsksAt w l link
+  pub at : IsAClients w l link
   pub is : v ≡ put_link w l (record link { ask = sent_on bytes link.ask })
 
 abbrev pub CommandCall : WorldState → ℕ → List ℕ → WorldState → Result (Unit {0}) Refusal → Type 0
 CommandCall w l bytes v (Ok done) = Sends w l bytes v
 CommandCall w l bytes v (Err refusal.Nobody) = NoneAsks w l × (v ≡ w)
-CommandCall w l bytes v (Err refusal.Memory) = ((k : Link) × AsksAt w l k) × (bytes ≢ []) × (v ≡ w)
+CommandCall w l bytes v (Err refusal.Memory) = ((k : Link) × IsAClients w l k) × (bytes ≢ []) × (v ≡ w)
 CommandCall w l bytes v (Err refusal.Drawn) = ⊥
 CommandCall w l bytes v (Err refusal.TooMuch) = ⊥
 CommandCall w l bytes v (Err refusal.InputFull) = ⊥
@@ -93,14 +88,14 @@ CommandCall w l bytes v (Err refusal.InputFull) = ⊥
 -- a client takes so many bytes more of those that were sent to it
 pub record Takes (w : WorldState) (l count : ℕ) (v : WorldState) : Type 0 where
   pub link : Link
-  pub at : AsksAt w l link
+  pub at : IsAClients w l link
   pub sent : link.tell.taken + count ≤ length link.tell.sent
   pub is : v ≡ put_link w l (record link { tell = taken_on count link.tell })
 
 -- So many more weren't sent.
 pub record WereNotSent (w : WorldState) (l count : ℕ) : Type 0 where
   pub link : Link
-  pub at : AsksAt w l link
+  pub at : IsAClients w l link
   pub fewer : link.tell.taken + count ≤ length link.tell.sent → ⊥
 
 abbrev pub TakeCall : WorldState → ℕ → ℕ → WorldState → Result (Unit {0}) Refusal → Type 0
@@ -114,7 +109,7 @@ TakeCall w l count v (Err refusal.InputFull) = ⊥
 -- a client closes its end
 pub record Leaves (w : WorldState) (l : ℕ) (v : WorldState) : Type 0 where
   pub link : Link
-  pub at : AsksAt w l link
+  pub at : IsAClients w l link
   pub is : v ≡ put_link w l (record link { caller = a_client false })
 
 abbrev pub LeaveCall : WorldState → ℕ → WorldState → Result (Unit {0}) Refusal → Type 0

@@ -9,7 +9,7 @@ use Rattle.mr_node_spec.specs.State.{end_of}
 use Rattle.law_refinement.specs.Way.{unread}
 use Rattle.law_refinement.specs.State.{Link, WorldState}
 use Rattle.law_refinement.specs.Worlds.{IsWorld}
-use Rattle.mr_world_parts.specs.declared.side.Side.TheVariants as side
+use Rattle.mr_links.specs.declared.side.Side.TheVariants as side
 use Rattle.mr_world.specs.declared.event.Event.{Event}
 use Rattle.mr_world.specs.declared.event.Event.TheVariants as event
 use Rattle.mr_world.specs.Serving.{HasServed, ServesLink}

@@ -1,8 +1,8 @@
 // What happens to a World.
 use mr_data::Given;
+use mr_links::Side;
 use mr_node::Config;
 use mr_repl::ReplId;
-use mr_world_parts::Side;
 
 /// What happens to a World. Nodes and links are numbered from 0, in the order in which they came.
 #[derive(Drop)]

@@ -4,8 +4,8 @@ ghost use Rattle.std.specs.Option.{option_copied, option_map};
 ghost use Rattle.mr_world_parts.specs.Lending.{file_in, node_in, took_at};
 
 use crate::world::World;
+use mr_links::Side;
 use mr_node::Node;
-use mr_world_parts::Side;
 
 impl World {
     /// How many nodes there are. They are numbered from 0, in the order in which they started.

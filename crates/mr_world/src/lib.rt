@@ -13,6 +13,6 @@ mod world;
 
 pub use connecting_laws::{connects_and_accepts_are_events, dials_are_events};
 pub use event::Event;
-pub use mr_world_parts::Side;
+pub use mr_links::Side;
 pub use refusal::Refusal;
 pub use world::World;

@@ -6,8 +6,8 @@ use crate::event::Event;
 use crate::refusal::Refusal;
 use crate::world::World;
 use mr_data::Given;
+use mr_links::Side;
 use mr_repl::ReplId;
-use mr_world_parts::Side;
 
 impl World {
     /// Events happen, one after another, until one is refused: its number, from 0, and why. Those before it stand, and it changes nothing, but for

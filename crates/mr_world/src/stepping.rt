@@ -6,12 +6,11 @@ use crate::parts::Parts;
 use crate::refusal::Refusal;
 use mr_data::Given;
 use mr_node::NodeFault;
-use mr_world_parts::give_tick;
-use std::alloc::Global;
+use mr_world_parts::{Giving, give_tick};
 
 impl Parts {
     /// Time passes at a node. What it gives out is carried; where memory runs out for that the node stops.
-    pub(crate) fn tick(&mut self, alloc: Global, n: usize, given: Given) -> Result<(), Refusal>
+    pub(crate) fn tick(&mut self, n: usize, given: Given) -> Result<(), Refusal>
         ensures { TickCall self.old n given.now self.new result }
     {
         if n >= self.slots.len() {
@@ -22,15 +21,17 @@ impl Parts {
         };
         match self.slots[n].tick(given) {
             Ok(outs) => {
+                let giving = Giving {
+                    node: n,
+                    id,
+                    offset,
+                    outs: &outs,
+                };
                 let carried = give_tick(
-                    alloc,
                     &mut self.slots[n],
                     &mut self.links,
                     &mut self.book,
-                    n,
-                    id,
-                    offset,
-                    &outs,
+                    &giving,
                 );
                 if carried.is_err() {
                     self.slots[n].fail();

@@ -17,6 +17,7 @@ use crate::refusal::Refusal;
 use mr_data::Given;
 use mr_node::Config;
 use mr_repl::ReplId;
+use mr_world_parts::Restart;
 use std::alloc::Global;
 use std::hash::RandomState;
 use std::marker::Model;
@@ -118,7 +119,7 @@ impl World {
     pub fn tick(&mut self, n: usize, given: Given) -> Result<(), Refusal>
         ensures { TickCall self.old n given.now self.new result }
     {
-        self.parts.tick(self.alloc, n, given)
+        self.parts.tick(n, given)
     }
 
     /// Its clause says what each World keeps.
@@ -140,7 +141,7 @@ impl World {
     pub fn step_server(&mut self, l: usize, given: Given, fresh: ReplId) -> Result<(), Refusal>
         ensures { StepCall self.old l given fresh self.new result }
     {
-        self.parts.step_server(self.alloc, l, given, fresh)
+        self.parts.step_server(l, given, fresh)
     }
 
     /// The node that follows by a link closes its end. That of a client, or of a node that follows by it no more, isn't one. At a stopped node
@@ -164,8 +165,8 @@ impl World {
     {
         // its clause says that it is an id
         let _ = id.bytes();
-        self.parts
-            .restart(self.alloc, self.seed, n, kept, id, config)
+        let restart = Restart { kept, id, config };
+        self.parts.restart(self.alloc, self.seed, n, &restart)
     }
 
     /// The node that follows by a link makes a step there, with a fresh id that was never drawn. Where memory runs out for what the node

@@ -3,8 +3,8 @@ use Rattle.std.specs.Prelude.{ℕ, List, take}
 use Rattle.mr_node_spec.specs.State.{NodeState}
 use Rattle.law_refinement.specs.Way.{WayState}
 use Rattle.law_refinement.specs.State.{Link, Slot}
-use Rattle.mr_world_parts.specs.declared.side.Side.{Side}
-use Rattle.mr_world_parts.specs.declared.side.Side.TheVariants as side
+use Rattle.mr_links.specs.declared.side.Side.{Side}
+use Rattle.mr_links.specs.declared.side.Side.TheVariants as side
 
 abbrev pub node_in : Slot → NodeState
 node_in s = s.node

@@ -9,6 +9,7 @@ ghost use Rattle.mr_world_parts.specs.Memory.{TakesMemory};
 ghost use Rattle.mr_world_parts.specs.Undoing.{fed_by, unfed_by, shut_by, unsaid_on};
 
 use crate::entry::{BookEntry, branch, lengthen};
+use crate::giving::Giving;
 use crate::link::Link;
 use crate::slot::Slot;
 use mr_node_output::Outs;
@@ -129,43 +130,43 @@ pub(crate) fn copied(alloc: Global, outs: &Outs) -> Result<Option<Vec<u8>>, Allo
     }
 }
 
-/// What a call gave out, but for its reply, goes to the file, the links and the book. The id and the offset are those of before the call.
+/// What a call gave out, but for its reply, goes to the file, the links and the book.
 fn give(
-    alloc: Global,
     slot: &mut Slot,
     links: &mut Vec<Link>,
     book: &mut Vec<BookEntry>,
-    n: usize,
-    id: ReplId,
-    offset: u64,
-    outs: &Outs,
+    giving: &Giving<'_>,
 ) -> Result<(), AllocError>
     ensures file { OnOk result (slot.new ≡
-        record slot.old { file = filed outs.now slot.old.file }) }
-    ensures links { OnOk result (links.new.items ≡ map (reached n outs.now) links.old.items) }
+        record slot.old { file = filed giving.now.outs.now slot.old.file }) }
+    ensures links { OnOk result (links.new.items ≡
+        map (reached giving.now.node giving.now.outs.now) links.old.items) }
     ensures book { OnOk result (book.new.items ≡
-        booked_as outs.now.used book.old.items id offset outs.now.grown) }
+        booked_as giving.now.outs.now.used book.old.items giving.now.id giving.now.offset
+        giving.now.outs.now.grown) }
     ensures no_file { OnErr result (slot.new ≡ slot.old) }
     ensures no_links { OnErr result (links.new.items ≡ links.old.items) }
     ensures no_book { OnErr result (book.new.items ≡ book.old.items) }
-    ensures memory { OnErr result (TakesMemory outs.now) }
+    ensures memory { OnErr result (TakesMemory giving.now.outs.now) }
 {
+    let alloc = *links.allocator();
+    let outs = giving.outs;
     let Ok(replaced) = copied(alloc, outs) else {
         return Err(AllocError);
     };
     if slot.append(outs.appended()).is_err() {
         return Err(AllocError);
     }
-    if feed_in(links, n, outs).is_err() {
+    if feed_in(links, giving.node, outs).is_err() {
         slot.shorten(outs.appended().len());
         return Err(AllocError);
     }
-    if write_book(alloc, book, id, offset, outs).is_err() {
-        unfeed_in(links, n, outs);
+    if write_book(alloc, book, giving.id, giving.offset, outs).is_err() {
+        unfeed_in(links, giving.node, outs);
         slot.shorten(outs.appended().len());
         return Err(AllocError);
     }
-    shut_in(links, n, outs);
+    shut_in(links, giving.node, outs);
     slot.replace(replaced);
     Ok(())
 }
@@ -216,34 +217,32 @@ fn unsay_in(links: &mut Vec<Link>, l: usize, outs: &Outs)
     unsay(links.as_mut_slice(), l, outs);
 }
 
-/// What a tick gave out goes to the file, the links and the book. The id and the offset are those of before the tick.
+/// What a tick gave out goes to the file, the links and the book.
 pub fn give_tick(
-    alloc: Global,
     slot: &mut Slot,
     links: &mut Vec<Link>,
     book: &mut Vec<BookEntry>,
-    n: usize,
-    id: ReplId,
-    offset: u64,
-    outs: &Outs,
+    giving: &Giving<'_>,
 ) -> Result<(), AllocError>
     ensures file { OnOk result (slot.new ≡
-        record slot.old { file = filed outs.now slot.old.file }) }
+        record slot.old { file = filed giving.now.outs.now slot.old.file }) }
     ensures links { OnOk result (links.new.items ≡
-        said_on outs.now.link slot.old.dialled outs.now.reply
-        (map (reached n outs.now) links.old.items)) }
+        said_on giving.now.outs.now.link slot.old.dialled giving.now.outs.now.reply
+        (map (reached giving.now.node giving.now.outs.now) links.old.items)) }
     ensures book { OnOk result (book.new.items ≡
-        booked_as outs.now.used book.old.items id offset outs.now.grown) }
+        booked_as giving.now.outs.now.used book.old.items giving.now.id giving.now.offset
+        giving.now.outs.now.grown) }
     ensures no_file { OnErr result (slot.new ≡ slot.old) }
     ensures no_links { OnErr result (links.new.items ≡ links.old.items) }
     ensures no_book { OnErr result (book.new.items ≡ book.old.items) }
-    ensures memory { OnErr result (TakesMemory outs.now) }
+    ensures memory { OnErr result (TakesMemory giving.now.outs.now) }
 {
+    let outs = giving.outs;
     let l = slot.dialled();
     if say_in(links, l, outs).is_err() {
         return Err(AllocError);
     }
-    if give(alloc, slot, links, book, n, id, offset, outs).is_err() {
+    if give(slot, links, book, giving).is_err() {
         unsay_in(links, l, outs);
         return Err(AllocError);
     }
@@ -266,36 +265,35 @@ fn settle(link: &mut Link, slot: &Slot, outs: &Outs)
     link.stay(!slot.is_client(name), left);
 }
 
-/// What a step at a server's end gave out goes to the file, the links and the book. The id and the offset are those of before the step.
+/// What a step at a server's end gave out goes to the file, the links and the book.
 pub fn give_step(
-    alloc: Global,
     slot: &mut Slot,
     links: &mut Vec<Link>,
     book: &mut Vec<BookEntry>,
-    n: usize,
     l: usize,
-    id: ReplId,
-    offset: u64,
-    outs: &Outs,
+    giving: &Giving<'_>,
 ) -> Result<(), AllocError>
     requires link { l < length links.old.items }
     requires behind { (k : LinkState) → slice_get links.old.items l ≡ Some k →
-        IsBehind slot.old.node k.name outs.now }
+        IsBehind slot.old.node k.name giving.now.outs.now }
     ensures file { OnOk result (slot.new ≡
-        record slot.old { file = filed outs.now slot.old.file }) }
+        record slot.old { file = filed giving.now.outs.now slot.old.file }) }
     ensures links { OnOk result ((k : LinkState) → slice_get links.old.items l ≡ Some k →
-        links.new.items ≡ answered_links n l k slot.old.node outs.now links.old.items) }
+        links.new.items ≡ answered_links giving.now.node l k slot.old.node giving.now.outs.now
+        links.old.items) }
     ensures book { OnOk result (book.new.items ≡
-        booked_as outs.now.used book.old.items id offset outs.now.grown) }
+        booked_as giving.now.outs.now.used book.old.items giving.now.id giving.now.offset
+        giving.now.outs.now.grown) }
     ensures no_file { OnErr result (slot.new ≡ slot.old) }
     ensures no_links { OnErr result (links.new.items ≡ links.old.items) }
     ensures no_book { OnErr result (book.new.items ≡ book.old.items) }
-    ensures memory { OnErr result (TakesMemory outs.now) }
+    ensures memory { OnErr result (TakesMemory giving.now.outs.now) }
 {
+    let outs = giving.outs;
     if links[l].tell(outs.reply()).is_err() {
         return Err(AllocError);
     }
-    if give(alloc, slot, links, book, n, id, offset, outs).is_err() {
+    if give(slot, links, book, giving).is_err() {
         links[l].untell(outs.reply().len());
         return Err(AllocError);
     }

@@ -3,16 +3,18 @@
 
 mod carry;
 mod entry;
+mod giving;
 mod heard;
 mod link;
-mod side;
+mod restart;
 mod slot;
 mod way;
 
 pub use carry::{give_step, give_tick};
 pub use entry::{BookEntry, is_spent};
+pub use giving::Giving;
 pub use heard::give_heard;
-pub use link::Link;
-pub use side::Side;
+pub use link::{Link, NodeEnd};
+pub use restart::Restart;
 pub use slot::Slot;
 pub use way::Way;

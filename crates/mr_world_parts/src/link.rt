@@ -8,12 +8,18 @@ ghost use Rattle.mr_world_parts.specs.AtLink.{IsAsking, by_node, shut_at, heard_
 ghost use Rattle.mr_world_parts.specs.Lending.{took_at};
 ghost use Rattle.mr_world_parts.specs.Undoing.{asked, unasked, unfed_if, untold};
 
-use crate::side::Side;
 use crate::way::Way;
-use mr_links::LinkId;
+use mr_links::{LinkId, Side};
 use mr_node_output::Outs;
 use std::alloc::{AllocError, Global};
 use std::marker::Model;
+
+/// A node, and its own name for a link.
+#[derive(Clone, Copy)]
+pub struct NodeEnd {
+    pub node: usize,
+    pub name: LinkId,
+}
 
 /// A link to a node, of a client or of another node.
 #[derive(Drop)]
@@ -58,14 +64,14 @@ impl Link {
         }
     }
 
-    /// The link of a node, which knows it by a name of its own, to a node that knows it by another; this is what was sent on it.
-    pub fn of_node(alloc: Global, n: usize, name: LinkId, to: usize, at: LinkId, ask: Way) -> Link
+    /// The link between two nodes; this is what was sent on it by who opened it.
+    pub fn of_node(alloc: Global, opener: NodeEnd, server: NodeEnd, ask: Way) -> Link
         ensures { result ≡
             record {
-              caller = a_node n name;
+              caller = a_node opener.node opener.name;
               waits = false;
-              to = to;
-              name = at;
+              to = server.node;
+              name = server.name;
               serving = true;
               streams = false;
               ask = ask;
@@ -73,11 +79,11 @@ impl Link {
             } }
     {
         Link {
-            peer: Some((n, name)),
+            peer: Some((opener.node, opener.name)),
             asking: false,
             waits: false,
-            to,
-            name: at,
+            to: server.node,
+            name: server.name,
             serving: true,
             streams: false,
             ask,
@@ -100,7 +106,8 @@ impl Link {
             } }
     {
         // until a node accepts it, the one that dialled stands in the server's place
-        let mut link = Link::of_node(alloc, n, name, n, name, ask);
+        let dialler = NodeEnd { node: n, name };
+        let mut link = Link::of_node(alloc, dialler, dialler, ask);
         link.waits = true;
         link.serving = false;
         link

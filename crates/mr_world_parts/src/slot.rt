@@ -11,6 +11,7 @@ ghost use Rattle.law_refinement.specs.Carrying.{begun_slot, filed_by};
 ghost use Rattle.mr_world_parts.specs.AtNode.{DialsBy, IsFollowing, IsLoaded};
 
 use crate::entry::front_of;
+use crate::restart::Restart;
 use mr_data::{Dataset, Given};
 use mr_groups::{Loaded, load_groups};
 use mr_links::LinkId;
@@ -68,19 +69,17 @@ impl Slot {
     pub fn load(
         alloc: Global,
         seed: RandomState,
-        kept: &[u8],
         as_master: bool,
-        id: ReplId,
-        config: Config,
+        restart: &Restart<'_>,
     ) -> Result<Slot, AllocError>
-        ensures { IfOk result (λ s.
-            IsLoaded kept.now (not as_master) config.port config.backlog id s) }
+        ensures { IfOk result (λ s. IsLoaded restart.now.kept.now (not as_master)
+            restart.now.config.port restart.now.config.backlog restart.now.id s) }
     {
-        let Loaded { dataset, used } = load_groups(alloc, seed, kept)?;
-        let file = Vec::from_slice(alloc, front_of(kept, used))?;
-        let mut anew = config;
+        let Loaded { dataset, used } = load_groups(alloc, seed, restart.kept)?;
+        let file = Vec::from_slice(alloc, front_of(restart.kept, used))?;
+        let mut anew = restart.config;
         anew.replica = !as_master;
-        let Ok(node) = Node::start(alloc, id, dataset, anew) else {
+        let Ok(node) = Node::start(alloc, restart.id, dataset, anew) else {
             return Err(AllocError);
         };
         Ok(Slot {

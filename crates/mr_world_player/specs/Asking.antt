@@ -2,11 +2,7 @@
 use Rattle.std.specs.Prelude.{◌≡◌, ℕ, ◌≤◌, ◌^◌, List, [], Option, None, Some, take, slice_get}
 use Rattle.mr_node.specs.declared.config.Config.{Config}
 use Rattle.mr_world_script.specs.Said.{Said, nothing, starts, joins, sends, delivers, steps, ticks, breaks, dials, connects, accepts, restarts, shows, gets}
-use Rattle.mr_world_script.specs.declared.side.Side.{Side as SaidSide}
-use Rattle.mr_world_script.specs.declared.side.Side.TheVariants as said
 use Rattle.law_refinement.specs.State.{Slot, WorldState}
-use Rattle.mr_world_parts.specs.declared.side.Side.{Side}
-use Rattle.mr_world_parts.specs.declared.side.Side.TheVariants as side
 use Rattle.mr_world.specs.declared.event.Event.{Event}
 use Rattle.mr_world.specs.declared.event.Event.TheVariants as event
 use Rattle.mr_world_player.specs.declared.asked.Asked.{Asked}
@@ -14,11 +10,6 @@ use Rattle.mr_world_player.specs.declared.asked.Asked.TheVariants as asked
 
 abbrev pub IsBacklog : ℕ → Type 0
 IsBacklog n = (1 ≤ n) × (n ≤ 2 ^ 30)
-
--- as a script names it
-abbrev pub script_side : Side → SaidSide
-script_side side.Opener = said.Opener
-script_side side.Server = said.Server
 
 -- what all nodes of a script start with, in either role
 pub record IsConfig (size : ℕ) (config : Config) : Type 0 where
@@ -41,10 +32,10 @@ abbrev pub IsEvent : ℕ → WorldState → Said → Event → Type 0
 IsEvent backlog w said (event.Start id config) = (said ≡ starts config.replica id) × IsConfig backlog config
 IsEvent backlog w said (event.Client n) = said ≡ joins n
 IsEvent backlog w said (event.Command l bytes) = said ≡ sends l bytes.items
-IsEvent backlog w said (event.Deliver l at count) = said ≡ delivers l (script_side at) count
-IsEvent backlog w said (event.Step l at given fresh) = said ≡ steps l (script_side at) given.now given.word fresh
+IsEvent backlog w said (event.Deliver l at count) = said ≡ delivers l at count
+IsEvent backlog w said (event.Step l at given fresh) = said ≡ steps l at given.now given.word fresh
 IsEvent backlog w said (event.Tick n given) = said ≡ ticks n given.now
-IsEvent backlog w said (event.Break l at) = said ≡ breaks l (script_side at)
+IsEvent backlog w said (event.Break l at) = said ≡ breaks l at
 IsEvent backlog w said (event.Dial n m) = said ≡ dials n m
 IsEvent backlog w said (event.Connect n) = said ≡ connects n
 IsEvent backlog w said (event.Accept l n) = said ≡ accepts l n

@@ -1,7 +1,7 @@
 -- What stands on a stage while a script is read.
 use Rattle.std.specs.Prelude.{◌≡◌, ℕ, List, [], Option, Bool, true, false, Result, Ok, Err}
 use Rattle.std.specs.Io.KnownBytes.{Appends, Consumes, IsAtEnd}
-use Rattle.mr_pipe.specs.Outside.{IsBegun}
+use Rattle.mr_file.specs.Outputs.{IsBegun}
 use Rattle.mr_pipe.specs.declared.fault.PipeFault.{PipeFault}
 use Rattle.mr_pipe.specs.declared.fault.PipeFault.TheVariants as fault
 use Rattle.law_refinement.specs.State.{WorldState}

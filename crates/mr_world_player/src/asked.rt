@@ -2,11 +2,11 @@
 ghost use Rattle.std.specs.Prelude.{◌≡◌, IfOk, take, slice_get};
 ghost use Rattle.mr_world_script.specs.Reading.{said_of};
 ghost use Rattle.mr_world_script.specs.Said.{restarts};
-ghost use Rattle.mr_world_player.specs.Asking.{file_at, IsAsked, IsBacklog, IsConfig, IsEvent, script_side};
+ghost use Rattle.mr_world_player.specs.Asking.{file_at, IsAsked, IsBacklog, IsConfig, IsEvent};
 
 use mr_node::Config;
 use mr_repl::ReplId;
-use mr_world::{Event, Side, World};
+use mr_world::{Event, World};
 use mr_world_script::Line;
 use std::alloc::{AllocError, Global};
 
@@ -21,16 +21,6 @@ pub(crate) enum Asked {
     Show(usize),
     /// What the client of a link took.
     Got(usize),
-}
-
-/// The side that a script names.
-fn side_of(side: mr_world_script::Side) -> Side
-    ensures { script_side result ≡ side }
-{
-    match side {
-        mr_world_script::Side::Opener => Side::Opener,
-        mr_world_script::Side::Server => Side::Server,
-    }
 }
 
 /// What a node of a script starts with: it has no port.
@@ -101,29 +91,20 @@ pub(crate) fn asked_by(
         }
         Line::Client { node } => Event::Client { node },
         Line::Command { link, bytes } => Event::Command { link, bytes },
-        Line::Deliver { link, side, count } => {
-            let side = side_of(side);
-            Event::Deliver { link, side, count }
-        }
+        Line::Deliver { link, side, count } => Event::Deliver { link, side, count },
         Line::Step {
             link,
             side,
             given,
             fresh,
-        } => {
-            let side = side_of(side);
-            Event::Step {
-                link,
-                side,
-                given,
-                fresh,
-            }
-        }
+        } => Event::Step {
+            link,
+            side,
+            given,
+            fresh,
+        },
         Line::Tick { node, given } => Event::Tick { node, given },
-        Line::Break { link, side } => {
-            let side = side_of(side);
-            Event::Break { link, side }
-        }
+        Line::Break { link, side } => Event::Break { link, side },
         Line::Restart { node, count, id } => restart_of(alloc, world, backlog, node, count, id)?,
     };
     Ok(Asked::Event(event))

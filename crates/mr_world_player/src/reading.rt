@@ -6,7 +6,7 @@ ghost use Rattle.mr_world_player.specs.Staging.{AnswersNext, GoesOn, IsOnStage};
 
 use crate::playing::play;
 use crate::stage::Stage;
-use mr_pipe::{PipeFault, write_out};
+use mr_pipe::{PipeFault, write_reply};
 use std::io::Write;
 
 impl Stage {
@@ -29,7 +29,7 @@ impl Stage {
             return Err(PipeFault::Memory);
         }
         self.line.clear();
-        write_out(output, self.answer.as_slice())
+        write_reply(output, self.answer.as_slice())
     }
 
     /// A byte of the script comes. At the end of a line that is played.

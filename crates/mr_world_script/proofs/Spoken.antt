@@ -12,8 +12,8 @@ use Rattle.mr_bytes.proofs.Both.{first, second}
 use Rattle.mr_world_script.specs.Said.{Said, nothing, starts, joins, sends, delivers, steps, ticks, breaks, dials, connects, accepts, restarts, shows, gets, NamesId, Says, SaysSend, request, text}
 use Rattle.mr_world_script.specs.Words.{with, count_of, moment_if, moment_of, side_of, side_text, id_of}
 use Rattle.mr_world_script.specs.Reading.{text_of, names, is_named, named, given_of, start, client, send, raw, deliver, step, tick, «break», dial, connect, accept, restart, show, got, behind, said_by}
-use Rattle.mr_world_script.specs.declared.side.Side.{Side}
-use Rattle.mr_world_script.specs.declared.side.Side.TheVariants.{Opener, Server}
+use Rattle.mr_links.specs.declared.side.Side.{Side}
+use Rattle.mr_links.specs.declared.side.Side.TheVariants.{Opener, Server}
 use Rattle.mr_world_script.specs.declared.event_name.EventName.{EventName}
 use Rattle.mr_world_script.specs.declared.event_name.EventName.TheVariants.{Start, Replica, Client, Send, Raw, Deliver, Step, Tick, Break, Dial, Connect, Accept, Restart, Show, Got}
 use Rattle.mr_world_script.proofs.Counts.{count_of-decimal, count_text}

@@ -5,7 +5,7 @@ use Rattle.mr_data.specs.Given.{IsMoment}
 use Rattle.mr_repl.specs.ReplId.{IsId, digits_of}
 use Rattle.mr_resp.specs.Spelling.{array}
 use Rattle.mr_world_script.specs.Words.{side_text, written_out}
-use Rattle.mr_world_script.specs.declared.side.Side.{Side}
+use Rattle.mr_links.specs.declared.side.Side.{Side}
 
 -- What a line says: nothing, an event of a World, or a question. Nodes and links are numbers.
 pub data Said : Type 0 where

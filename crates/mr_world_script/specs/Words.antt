@@ -8,8 +8,8 @@ use Rattle.hex.specs.Hex.{decode_sized}
 use Rattle.hex.specs.declared.error.FromHexError.{FromHexError}
 use Rattle.mr_repl.specs.ReplId.{digits_of}
 use Rattle.mr_bytes.specs.Number.{number_of}
-use Rattle.mr_world_script.specs.declared.side.Side.{Side}
-use Rattle.mr_world_script.specs.declared.side.Side.TheVariants.{Opener, Server}
+use Rattle.mr_links.specs.declared.side.Side.{Side}
+use Rattle.mr_links.specs.declared.side.Side.TheVariants.{Opener, Server}
 
 -- what is read with something that was read, if it was
 abbrev pub with : {A B : Type 0} → Option A → (A → Option B) → Option B

@@ -12,4 +12,3 @@ mod side;
 pub use answer::ScriptAnswer;
 pub use laws::{answers_are_printable, lines_say_one_thing, printed_bytes_tell, quoted_words_say};
 pub use line::Line;
-pub use side::Side;

@@ -6,9 +6,9 @@ ghost use Rattle.mr_inline.specs.Limits.{line_limit};
 ghost use Rattle.mr_world_script.specs.Lines.{Reads};
 
 use crate::reading::read_words;
-use crate::side::Side;
 use mr_data::Given;
 use mr_inline::{LINE_LIMIT, LineScan, next_line};
+use mr_links::Side;
 use mr_repl::ReplId;
 use std::alloc::{AllocError, Global};
 

@@ -7,7 +7,7 @@ ghost use Rattle.mr_world_script.specs.Reading.{accept, behind, client, connect,
 use crate::event_name::EventName;
 use crate::line::Line;
 use crate::numbers::{read_count, read_given, read_id};
-use crate::side::Side;
+use crate::side::read_side;
 use mr_resp::{push_word, push_word_count};
 use std::alloc::{AllocError, Global};
 use std::borrow::CowSlice;
@@ -135,7 +135,7 @@ fn deliver(words: &[CowSlice<'_, u8>]) -> Option<Line>
     match words {
         [link, side, count] => Some(Line::Deliver {
             link: read_count(link.as_slice())?,
-            side: Side::read(side.as_slice())?,
+            side: read_side(side.as_slice())?,
             count: read_count(count.as_slice())?,
         }),
         _ => None,
@@ -149,7 +149,7 @@ fn step(words: &[CowSlice<'_, u8>]) -> Option<Line>
     match words {
         [link, side, now, chance, fresh] => Some(Line::Step {
             link: read_count(link.as_slice())?,
-            side: Side::read(side.as_slice())?,
+            side: read_side(side.as_slice())?,
             given: read_given(now.as_slice(), read_count(chance.as_slice())?)?,
             fresh: read_id(fresh.as_slice())?,
         }),
@@ -177,7 +177,7 @@ fn broken(words: &[CowSlice<'_, u8>]) -> Option<Line>
     match words {
         [link, side] => Some(Line::Break {
             link: read_count(link.as_slice())?,
-            side: Side::read(side.as_slice())?,
+            side: read_side(side.as_slice())?,
         }),
         _ => None,
     }

@@ -1,21 +1,12 @@
 //! Connections: who holds their ends, and what is on its way.
-use mr_links::LinkId;
+use mr_links::{LinkId, Side};
 use std::alloc::{AllocError, Global};
 
-/// An end of a connection: that of who opened it, or the other one.
-#[derive(Clone, Copy, PartialEq, Eq)]
-pub enum Side {
-    Opener,
-    Other,
-}
-
-impl Side {
-    /// The other one.
-    pub fn across(self) -> Side {
-        match self {
-            Side::Opener => Side::Other,
-            Side::Other => Side::Opener,
-        }
+/// The other side.
+pub fn across(side: Side) -> Side {
+    match side {
+        Side::Opener => Side::Server,
+        Side::Server => Side::Opener,
     }
 }
 
@@ -33,7 +24,7 @@ impl Tip {
         let first = self.number.saturating_mul(2);
         match self.side {
             Side::Opener => first,
-            Side::Other => first.saturating_add(1),
+            Side::Server => first.saturating_add(1),
         }
     }
 }
@@ -100,7 +91,7 @@ impl Connection {
     pub fn holder(&self, side: Side) -> Holder {
         match side {
             Side::Opener => self.opener,
-            Side::Other => self.other,
+            Side::Server => self.other,
         }
     }
 
@@ -108,7 +99,7 @@ impl Connection {
     pub fn set_holder(&mut self, side: Side, holder: Holder) {
         match side {
             Side::Opener => self.opener = holder,
-            Side::Other => self.other = holder,
+            Side::Server => self.other = holder,
         }
     }
 
@@ -116,7 +107,7 @@ impl Connection {
     fn way(&self, side: Side) -> &Way {
         match side {
             Side::Opener => &self.to_opener,
-            Side::Other => &self.to_other,
+            Side::Server => &self.to_other,
         }
     }
 
@@ -124,7 +115,7 @@ impl Connection {
     fn way_mut(&mut self, side: Side) -> &mut Way {
         match side {
             Side::Opener => &mut self.to_opener,
-            Side::Other => &mut self.to_other,
+            Side::Server => &mut self.to_other,
         }
     }
 
@@ -162,7 +153,7 @@ impl Connection {
     pub fn close(&mut self, side: Side) {
         self.set_holder(side, Holder::Nobody);
         self.way_mut(side).bytes.clear();
-        self.way_mut(side.across()).is_over = true;
+        self.way_mut(across(side)).is_over = true;
     }
 
     /// Whether somebody holds an end, or may yet.
@@ -173,6 +164,6 @@ impl Connection {
     /// It breaks: what is on its way is lost.
     pub fn cut(&mut self) {
         self.close(Side::Opener);
-        self.close(Side::Other);
+        self.close(Side::Server);
     }
 }

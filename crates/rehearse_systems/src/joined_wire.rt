@@ -5,10 +5,10 @@ ghost use Rattle.mr_file.specs.LogFile.{Rose};
 ghost use Rattle.mr_wire.specs.Peer.{Names};
 ghost use Rattle.mr_wire.specs.Wire.{Opens, ChangesLink, behind_read, behind_write, count_of, wire_of};
 
-use crate::connection::{Side, Tip};
+use crate::connection::Tip;
 use crate::end::{End, Rest};
 use crate::told::{Opened, Told};
-use mr_links::{LINKS_LIMIT, LinkId, Links};
+use mr_links::{LINKS_LIMIT, LinkId, Links, Side};
 use mr_wire::{Failed, Moved, Wire};
 use std::alloc::{AllocError, Global};
 use std::collections::VecDeque;
@@ -243,7 +243,7 @@ impl Wire for JoinedWire {
         };
         let tip = Tip {
             number,
-            side: Side::Other,
+            side: Side::Server,
         };
         let link = self.open(End::new(self.alloc, tip, self.most))?;
         let peer = None;

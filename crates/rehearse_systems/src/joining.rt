@@ -1,11 +1,11 @@
 //! What becomes of connections.
-use crate::connection::{Connection, Holder, Side, Tip};
+use crate::connection::{Connection, Holder, Tip, across};
 use crate::end::Rest;
 use crate::line::side_of;
 use crate::system::{FIRST_PORT, System};
 use crate::telling::{tell_number, tell_told};
 use crate::told::{Opened, Told};
-use mr_links::LinkId;
+use mr_links::{LinkId, Side};
 use rehearse_shared::{Line, RehearsalFault, bytes_of, place_of, tell, tell_bytes};
 use std::net::{Ipv4Addr, SocketAddrV4};
 
@@ -52,7 +52,7 @@ impl System {
         let Some(connection) = self.connections.get(number) else {
             return tell(out, "none");
         };
-        let Holder::Waiting = connection.holder(Side::Other) else {
+        let Holder::Waiting = connection.holder(Side::Server) else {
             return tell(out, "none");
         };
         let Some(to) = connection.to else {
@@ -65,7 +65,7 @@ impl System {
         self.hold(
             Tip {
                 number,
-                side: Side::Other,
+                side: Side::Server,
             },
             Holder::Asking,
         );
@@ -93,7 +93,7 @@ impl System {
         let Holder::Client = connection.holder(Side::Opener) else {
             return tell(out, "none");
         };
-        connection.push(Side::Other, bytes.as_slice())?;
+        connection.push(Side::Server, bytes.as_slice())?;
         tell(out, "sent")
     }
 
@@ -118,7 +118,7 @@ impl System {
             return tell(out, "none");
         }
         let opener = connection.holder(Side::Opener);
-        let other = connection.holder(Side::Other);
+        let other = connection.holder(Side::Server);
         let to = connection.to;
         connection.cut();
         self.break_end(opener);
@@ -203,7 +203,7 @@ impl System {
             return Ok(Vec::new(self.alloc));
         };
         let taken = connection.take(tip.side, most)?;
-        let writer = connection.holder(tip.side.across());
+        let writer = connection.holder(across(tip.side));
         if let Holder::Server(server, link) = writer
             && let Some(running) = self.running(server)
         {
@@ -284,7 +284,7 @@ impl System {
     fn note_written(&mut self, told: &Told) -> Result<(), RehearsalFault> {
         for written in told.written.as_slice() {
             if let Some(connection) = self.connections.get_mut(written.tip.number) {
-                connection.push(written.tip.side.across(), written.bytes.as_slice())?;
+                connection.push(across(written.tip.side), written.bytes.as_slice())?;
             }
         }
         Ok(())
@@ -303,7 +303,7 @@ impl System {
     pub fn part(&mut self, server: usize) {
         for connection in self.connections.iter_mut() {
             part_end(connection, server, Side::Opener);
-            part_end(connection, server, Side::Other);
+            part_end(connection, server, Side::Server);
         }
     }
 }

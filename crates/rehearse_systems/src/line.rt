@@ -1,6 +1,6 @@
 //! The words of a line, and what they say.
-use crate::connection::Side;
 use mr_file::SyncMode;
+use mr_links::Side;
 use rehearse_shared::{RehearsalFault, count_of};
 
 /// Whether appends are synced.
@@ -16,7 +16,7 @@ pub fn mode_of(word: &str) -> Result<SyncMode, RehearsalFault> {
 pub fn side_of(word: &str) -> Result<Side, RehearsalFault> {
     match word {
         "opener" => Ok(Side::Opener),
-        "other" => Ok(Side::Other),
+        "other" => Ok(Side::Server),
         _ => Err(RehearsalFault::Line),
     }
 }

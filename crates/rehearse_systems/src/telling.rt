@@ -1,6 +1,7 @@
 //! What an event answered, written.
-use crate::connection::{Side, Tip};
+use crate::connection::Tip;
 use crate::told::Told;
+use mr_links::Side;
 use mr_loop::Turn;
 use rehearse_shared::{RehearsalFault, tell, tell_bytes, tell_shown};
 use std::alloc::Global;
@@ -29,7 +30,7 @@ fn tell_tip(alloc: Global, word: &str, tip: Tip, out: &mut Vec<u8>) -> Result<()
     tell_number(alloc, word, tip.number, out)?;
     match tip.side {
         Side::Opener => tell(out, " opener"),
-        Side::Other => tell(out, " other"),
+        Side::Server => tell(out, " other"),
     }
 }
 

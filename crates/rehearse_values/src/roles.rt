@@ -31,14 +31,7 @@ fn tell_info(
 ) -> Result<(), RehearsalFault> {
     let replica = step.first == "slave";
     let followers = count_of(step.second)? as usize;
-    let text = info(
-        alloc,
-        replica,
-        followers,
-        lineage.id(),
-        lineage.second(),
-        lineage.stream(),
-    )?;
+    let text = info(alloc, replica, followers, lineage)?;
     tell(out, "text")?;
     tell_bytes(alloc, text.as_slice(), out)
 }

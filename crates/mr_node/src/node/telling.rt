@@ -47,14 +47,11 @@ impl Node {
     fn info_text(&self) -> Result<Vec<u8>, AllocError>
         ensures { IfOk result (λ text. TellsInfo self.now text.items) }
     {
-        let lineage = self.state.lineage();
         info(
             self.alloc,
             !self.state.master(),
             self.state.ends().replicas().len(),
-            lineage.id(),
-            lineage.second(),
-            lineage.stream(),
+            self.state.lineage(),
         )
     }
 

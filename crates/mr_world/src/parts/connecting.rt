@@ -6,7 +6,7 @@ use crate::parts::Parts;
 use crate::refusal::Refusal;
 use mr_follower::Follower;
 use mr_node::NodeFault;
-use mr_world_parts::{Link, Way};
+use mr_world_parts::{Link, NodeEnd, Way};
 use std::alloc::Global;
 use std::hash::RandomState;
 
@@ -68,7 +68,9 @@ impl Parts {
         let l = self.links.len();
         match self.slots[n].dial(seed, l) {
             Ok(name) => {
-                let Ok(()) = self.links.push(Link::of_node(alloc, n, name, m, at, ask)) else {
+                let opener = NodeEnd { node: n, name };
+                let server = NodeEnd { node: m, name: at };
+                let Ok(()) = self.links.push(Link::of_node(alloc, opener, server, ask)) else {
                     unreachable!()
                 };
                 Ok(())

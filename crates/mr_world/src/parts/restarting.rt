@@ -5,9 +5,7 @@ ghost use Rattle.mr_world.specs.Restarting.{RestartCall};
 
 use crate::parts::Parts;
 use crate::refusal::Refusal;
-use mr_node::Config;
-use mr_repl::ReplId;
-use mr_world_parts::{BookEntry, Link, Slot, is_spent};
+use mr_world_parts::{BookEntry, Link, Restart, Slot, is_spent};
 use std::alloc::Global;
 use std::hash::RandomState;
 
@@ -34,23 +32,22 @@ impl Parts {
         alloc: Global,
         seed: RandomState,
         n: usize,
-        kept: &[u8],
-        id: ReplId,
-        config: Config,
+        restart: &Restart<'_>,
     ) -> Result<(), Refusal>
-        ensures { RestartCall self.old n kept.now id config.port config.backlog self.new result }
+        ensures { RestartCall self.old n restart.now.kept.now restart.now.id
+            restart.now.config.port restart.now.config.backlog self.new result }
     {
-        if is_spent(self.book.as_slice(), id) {
+        if is_spent(self.book.as_slice(), restart.id) {
             return Err(Refusal::Drawn);
         }
         if n >= self.slots.len() {
             return Err(Refusal::Nobody);
         }
         let as_master = self.slots[n].as_master();
-        let Ok(slot) = Slot::load(alloc, seed, kept, as_master, id, config) else {
+        let Ok(slot) = Slot::load(alloc, seed, as_master, restart) else {
             return Err(Refusal::Memory);
         };
-        let Ok(entry) = BookEntry::begun_with(alloc, id, slot.file()) else {
+        let Ok(entry) = BookEntry::begun_with(alloc, restart.id, slot.file()) else {
             return Err(Refusal::Memory);
         };
         if self.book.push(entry).is_err() {

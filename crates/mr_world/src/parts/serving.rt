@@ -11,16 +11,21 @@ use crate::refusal::Refusal;
 use mr_data::Given;
 use mr_links::LinkId;
 use mr_node::{NodeFault, Step};
-use mr_node_output::Outs;
 use mr_repl::ReplId;
-use mr_world_parts::{give_step, is_spent};
-use std::alloc::Global;
+use mr_world_parts::{Giving, give_step, is_spent};
+
+/// A link, the node that serves it, and the link's name there.
+#[derive(Clone, Copy)]
+struct Served {
+    link: usize,
+    node: usize,
+    name: LinkId,
+}
 
 impl Parts {
     /// The node that serves a link makes a step there, under a fresh id.
     pub(crate) fn step_server(
         &mut self,
-        alloc: Global,
         l: usize,
         given: Given,
         fresh: ReplId,
@@ -43,30 +48,34 @@ impl Parts {
         if !self.slots[to].is_up() {
             return Ok(());
         }
-        self.step_at(alloc, l, to, name, given, fresh)
+        let at = Served {
+            link: l,
+            node: to,
+            name,
+        };
+        self.step_at(at, given, fresh)
     }
 
     /// A node that runs makes a step at a link that it serves, whose end is open.
-    fn step_at(
-        &mut self,
-        alloc: Global,
-        l: usize,
-        n: usize,
-        name: LinkId,
-        given: Given,
-        fresh: ReplId,
-    ) -> Result<(), Refusal>
+    fn step_at(&mut self, at: Served, given: Given, fresh: ReplId) -> Result<(), Refusal>
         requires world { IsWorld self.old }
-        requires serving { IsServing self.old l n name }
+        requires serving { IsServing self.old at.link at.node at.name }
         requires unspent { is_spent self.old.book fresh ≡ false }
-        ensures { StepCall self.old l given fresh self.new result }
+        ensures { StepCall self.old at.link given fresh self.new result }
     {
-        let Some((id, offset)) = self.slots[n].shows() else {
+        let node = at.node;
+        let Some((id, offset)) = self.slots[node].shows() else {
             unreachable!()
         };
-        match self.slots[n].step(name, given, fresh) {
+        match self.slots[node].step(at.name, given, fresh) {
             Ok(Step::Done(outs)) => {
-                self.carry_step(alloc, n, l, id, offset, &outs);
+                let giving = Giving {
+                    node,
+                    id,
+                    offset,
+                    outs: &outs,
+                };
+                self.carry_step(at.link, &giving);
                 Ok(())
             }
             Ok(Step::Idle) => Ok(()),
@@ -79,36 +88,26 @@ impl Parts {
     }
 
     /// What a step gave out is carried. Where memory runs out for that the node stops.
-    fn carry_step(
-        &mut self,
-        alloc: Global,
-        n: usize,
-        l: usize,
-        id: ReplId,
-        offset: u64,
-        outs: &Outs,
-    )
-        requires node { n < length self.old.slots }
+    fn carry_step(&mut self, l: usize, giving: &Giving<'_>)
+        requires node { giving.now.node < length self.old.slots }
         requires link { l < length self.old.links }
         requires behind { (s : SlotState) (k : LinkState) →
-            slice_get self.old.slots n ≡ Some s → slice_get self.old.links l ≡ Some k →
-            IsBehind s.node k.name outs.now }
-        ensures { IsCarried self.old n l id offset outs.now self.new }
+            slice_get self.old.slots giving.now.node ≡ Some s →
+            slice_get self.old.links l ≡ Some k → IsBehind s.node k.name giving.now.outs.now }
+        ensures { IsCarried self.old giving.now.node l giving.now.id giving.now.offset
+            giving.now.outs.now self.new }
     {
+        let node = giving.node;
         let carried = give_step(
-            alloc,
-            &mut self.slots[n],
+            &mut self.slots[node],
             &mut self.links,
             &mut self.book,
-            n,
             l,
-            id,
-            offset,
-            outs,
+            giving,
         );
         if carried.is_ok() {
             return;
         }
-        self.slots[n].fail();
+        self.slots[node].fail();
     }
 }

@@ -7,13 +7,13 @@ use Rattle.mr_world_parts.proofs.carry.give.Goals as goal
 
 pub returns-then-is_err-3-clause-no_links : goal.returns-then-is_err-3-clause-no_links
 returns-then-is_err-3-clause-no_links c =
-    let fed : c.feed_in.new.links.items ≡ map (fed_by c.args.n c.args.outs.now) c.args.links.now.items = search rules in
-    c.unfeed_in.ensures ∙ (ap (map (unfed_by c.args.n c.args.outs.now)) fed ∙ undone_all (fed_by c.args.n c.args.outs.now) (unfed_by c.args.n c.args.outs.now) (unfed_fed c.args.n c.args.outs.now) c.args.links.now.items)
+    let fed : c.feed_in.new.links.items ≡ map (fed_by c.args.giving.now.node c.args.giving.now.outs.now) c.args.links.now.items = search rules in
+    c.unfeed_in.ensures ∙ (ap (map (unfed_by c.args.giving.now.node c.args.giving.now.outs.now)) fed ∙ undone_all (fed_by c.args.giving.now.node c.args.giving.now.outs.now) (unfed_by c.args.giving.now.node c.args.giving.now.outs.now) (unfed_fed c.args.giving.now.node c.args.giving.now.outs.now) c.args.links.now.items)
 
 pub returns-clause-links : goal.returns-clause-links
 returns-clause-links c =
-    let fed : c.feed_in.new.links.items ≡ map (fed_by c.args.n c.args.outs.now) c.args.links.now.items = search rules in
-    c.shut_in.ensures ∙ (ap (map (shut_by c.args.n c.args.outs.now)) fed ∙ reach_all c.args.n c.args.outs.now c.args.links.now.items)
+    let fed : c.feed_in.new.links.items ≡ map (fed_by c.args.giving.now.node c.args.giving.now.outs.now) c.args.links.now.items = search rules in
+    c.shut_in.ensures ∙ (ap (map (shut_by c.args.giving.now.node c.args.giving.now.outs.now)) fed ∙ reach_all c.args.giving.now.node c.args.giving.now.outs.now c.args.links.now.items)
 
 pub returns-then-is_err-clause-memory : goal.returns-then-is_err-clause-memory
 returns-then-is_err-clause-memory c =
@@ -22,7 +22,7 @@ returns-then-is_err-clause-memory c =
 
 pub returns-then-is_err-2-clause-memory : goal.returns-then-is_err-2-clause-memory
 returns-then-is_err-2-clause-memory c =
-    let some : c.args.outs.now.grown ≢ [] = search rules in
+    let some : c.args.giving.now.outs.now.grown ≢ [] = search rules in
     TakesMemory.grows some
 
 pub returns-then-is_err-3-clause-memory : goal.returns-then-is_err-3-clause-memory

@@ -11,25 +11,25 @@ pub returns-then-is_err-2-clause-no_links : goal.returns-then-is_err-2-clause-no
 returns-then-is_err-2-clause-no_links c =
     let said : c.tell.new.self ≡ told c.reply.result.now c.index_mut.result.now = search rules in
     let gave : c.give.new.links.items ≡ slice_set c.args.links.now.items c.args.l c.tell.new.self = search rules in
-    untold_there c.args.n c.args.l c.args.outs.now c.args.links.now.items c.give.new.links.items c.index_mut.result.now c.tell.new.self c.index_mut-then-is_err-2.result.now
+    untold_there c.args.giving.now.node c.args.l c.args.giving.now.outs.now c.args.links.now.items c.give.new.links.items c.index_mut.result.now c.tell.new.self c.index_mut-then-is_err-2.result.now
     c.requires.link c.index_mut.ensures.value (said ∙ ap (λ z. told z c.index_mut.result.now) c.reply.ensures) c.index_mut-then-is_err-2.ensures.value
     (length c.reply-then-is_err-2.result.now) c.untell.new.self gave (ap length c.reply-then-is_err-2.ensures) c.untell.ensures
 
 pub settle-requires : goal.settle-requires
 settle-requires c =
     let said : c.tell.new.self ≡ told c.reply.result.now c.index_mut.result.now = search rules in
-    let gave : c.give.new.links.items ≡ map (reached c.args.n c.args.outs.now) (slice_set c.args.links.now.items c.args.l c.tell.new.self) = search rules in
-    let slot : c.give.new.slot ≡ record c.args.slot.now { file = filed c.args.outs.now c.args.slot.now.file } = search rules in
-    behind_told c.args.n c.args.l c.args.outs.now c.args.links.now.items c.give.new.links.items c.index_mut.result.now c.tell.new.self c.index_mut-2.result.now
+    let gave : c.give.new.links.items ≡ map (reached c.args.giving.now.node c.args.giving.now.outs.now) (slice_set c.args.links.now.items c.args.l c.tell.new.self) = search rules in
+    let slot : c.give.new.slot ≡ record c.args.slot.now { file = filed c.args.giving.now.outs.now c.args.slot.now.file } = search rules in
+    behind_told c.args.giving.now.node c.args.l c.args.giving.now.outs.now c.args.links.now.items c.give.new.links.items c.index_mut.result.now c.tell.new.self c.index_mut-2.result.now
     c.requires.link c.index_mut.ensures.value (said ∙ ap (λ z. told z c.index_mut.result.now) c.reply.ensures) c.index_mut-2.ensures.value
     c.args.slot.now.node c.requires.behind gave c.give.new.slot.node (ap (λ (z : Slot). z.node) slot)
 
 pub returns-clause-links : goal.returns-clause-links
 returns-clause-links c =
     let said : c.tell.new.self ≡ told c.reply.result.now c.index_mut.result.now = search rules in
-    let gave : c.give.new.links.items ≡ map (reached c.args.n c.args.outs.now) (slice_set c.args.links.now.items c.args.l c.tell.new.self) = search rules in
-    let slot : c.give.new.slot ≡ record c.args.slot.now { file = filed c.args.outs.now c.args.slot.now.file } = search rules in
-    answered_there c.args.n c.args.l c.args.outs.now c.args.links.now.items c.give.new.links.items c.index_mut.result.now c.tell.new.self c.index_mut-2.result.now
+    let gave : c.give.new.links.items ≡ map (reached c.args.giving.now.node c.args.giving.now.outs.now) (slice_set c.args.links.now.items c.args.l c.tell.new.self) = search rules in
+    let slot : c.give.new.slot ≡ record c.args.slot.now { file = filed c.args.giving.now.outs.now c.args.slot.now.file } = search rules in
+    answered_there c.args.giving.now.node c.args.l c.args.giving.now.outs.now c.args.links.now.items c.give.new.links.items c.index_mut.result.now c.tell.new.self c.index_mut-2.result.now
     c.requires.link c.index_mut.ensures.value (said ∙ ap (λ z. told z c.index_mut.result.now) c.reply.ensures) c.index_mut-2.ensures.value
     c.args.slot.now.node c.requires.behind gave c.give.new.slot.node c.settle.new.link (ap (λ (z : Slot). z.node) slot) c.settle.ensures
 

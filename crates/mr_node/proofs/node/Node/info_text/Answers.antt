@@ -14,7 +14,6 @@ returns c =
     let names = c.replicas.result.now in
     let ends : c.ends.result.now ≡ a.ends = c.ends.ensures.ends ∙ ap (λ (z : NodeState). z.ends) c.self.view_is in
     let master : c.master.result ≡ a.core.master = c.master.ensures ∙ ap (λ (z : NodeState). z.core.master) c.self.view_is in
-    let lineage : c.lineage-lineage.result.now ≡ a.core.lineage = c.lineage-lineage.ensures ∙ ap (λ (z : NodeState). z.core.lineage) c.self.view_is in
-    let whole : record { id = c.id.result; second = c.second.result; stream = c.stream.result.now } ≡ a.core.lineage = (λ i. record { id = c.id.ensures i; second = c.second.ensures.second i; stream = c.stream.ensures i }) ∙ lineage in
+    let lineage : c.lineage.result.now ≡ a.core.lineage = c.lineage.ensures ∙ ap (λ (z : NodeState). z.core.lineage) c.self.view_is in
     let listed : Lists names a.ends.open_links = subst (λ (z : Links EndState). Lists names z.open_links) ends c.replicas.ensures in
-    IfOk-weaker c.info.result _ _ (λ text told. info_told a text.items names listed (told ∙ (λ i. info_text (not (master i)) (length names) (whole i)))) c.info.ensures
+    IfOk-weaker c.info.result _ _ (λ text told. info_told a text.items names listed (told ∙ (λ i. info_text (not (master i)) (length names) (lineage i)))) c.info.ensures

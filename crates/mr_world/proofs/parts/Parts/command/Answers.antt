@@ -2,9 +2,10 @@ use Rattle.std.proofs.Common.{rules, [], ◌≡◌, ◌≢◌, ◌<◌, ◌∙�
 use Rattle.law_refinement.specs.Way.{sent_on}
 use Rattle.law_refinement.specs.State.{WorldState, Link}
 use Rattle.law_refinement.proofs.Places.{some_is}
+use Rattle.law_refinement.specs.OwnEnds.{IsAClients}
 use Rattle.mr_world_parts.specs.AtLink.{IsAsking}
 use Rattle.mr_world_parts.proofs.Places.{stands}
-use Rattle.mr_world.specs.Calls.{AsksAt, Sends, put_link}
+use Rattle.mr_world.specs.Calls.{Sends, put_link}
 use Rattle.mr_world.proofs.Joins.{asks_here, same_links, sends_here}
 use Rattle.mr_world.proofs.parts.Parts.command.Goals as goal
 
@@ -15,7 +16,7 @@ returns-then-is_err c =
     let asking : IsAsking c.index.result.now = search rules in
     let same : c.ask.new.self ≡ c.index_mut.result.now = search rules in
     let some : c.args.bytes.now ≢ [] = search rules in (
-      (c.index.result.now, subst (λ (z : WorldState). AsksAt z c.args.l c.index.result.now) c.self.view_is (asks_here w c.args.l c.index.result.now within c.index.ensures asking)),
+      (c.index.result.now, subst (λ (z : WorldState). IsAClients z c.args.l c.index.result.now) c.self.view_is (asks_here w c.args.l c.index.result.now within c.index.ensures asking)),
       some,
       same_links w c.args.l c.index_mut.result.now within c.index_mut.ensures.value c.ask.new.self same ∙ c.self.view_is,
     )
