@@ -9,15 +9,16 @@ import unittest
 from tests.sources import FUNCTION, Sources
 from tests.support.program import ROOT
 
-# how many functions a crate has at most, and how many rows a file, and the body of a function; how many columns a row of a clause
-FUNCTIONS, ROWS, BODY, COLUMNS = 100, 800, 39, 100
+# how many functions a crate has at most, and how many rows a file, and the body of a function; how many columns a row of a clause; how many parameters a
+# function, `self` among them
+FUNCTIONS, ROWS, BODY, COLUMNS, PARAMETERS = 100, 800, 39, 100, 5
 EXCUSED = {
     "functions": {
         "rehearse_values": 222,  # a program for tests: calls on each kind of value
         "mr_order": 153,  # one structure in levels, and its searches
         "rehearse_systems": 130,  # a program for tests: servers, the network between them, and a wire of their own
         "minired": 133,  # what a program does with what it is handed, of four kinds
-        "mr_value": 118,  # lists, hashes, sets and their bytes: kinds of one value
+        "mr_value": 137,  # lists, hashes, of two forms, sets and their bytes: kinds of one value
         "mr_node": 115,  # each call on a node, by the one invariant below it
         "mr_loop": 137,  # a turn, whose steps share one clause, and turns that are watched
         "mr_keyspace": 124,  # what each effect makes of each kind of value, whether it can, and the order of deadlines beside them
@@ -39,15 +40,35 @@ EXCUSED = {
         "mr_node_output out::OutsIterIterator::next": 70,  # each place at which something may be given out
         "mr_keyspace entries::Entries::copy": 60,
         "mr_keyspace entries::Entries::take": 58,
-        "mr_cmd_zset planning::change": 53,
-        "mr_cmd_key planning::reply_to": 49,
+        "mr_cmd_zset planning::change": 50,
         "mr_effect effect::Effect::fits": 48,
-        "mr_cmd_list planning::answer_of": 40,
+    },
+    # by the file and the function's name
+    "parameters": {
+        # node, links, wire, log and source are what a turn goes over; these have one more: who watches, or the turn's moment
+        "crates/mr_loop/src/serving.rt serve": 6,
+        "crates/mr_loop/src/serving.rt turn_watched": 6,
+        "crates/mr_loop/src/turning.rt turn_at": 6,
+        "crates/mr_loop/src/watch.rt look": 6,  # all that a turn went over, but for what it drew from
+        "crates/minired/src/watching.rt look": 6,
+        # what is piped, and the file and both streams that it goes over
+        "crates/mr_pipe/src/relay.rt pipe_with": 6,
+        "crates/mr_pipe/src/relay.rt relay": 6,
+        "crates/mr_pipe/src/relay.rt serve_piece": 6,
+        # a request, or what it comes to, with the node's call that it came in
+        "crates/mr_node/src/node/asking.rt ask": 6,
+        "crates/mr_node/src/node/waiting.rt come": 6,
+        "crates/mr_node/src/todo.rt request_todo": 6,
+        "crates/mr_node/src/todo.rt todo_of": 6,
+        "crates/mr_effect/src/encoding.rt push_five": 6,  # five words of one lifetime
+        "crates/mr_world_player/src/asked.rt restart_of": 6,  # what a line names, and the World that it is asked of
+        # programs for tests
+        "crates/rehearse_systems/src/joining.rt deliver_to_server": 6,
+        "crates/rehearse_turns/src/host.rt new": 6,
+        "crates/rehearse_values/src/course.rt begin": 6,
     },
     # a name that a crate exports, as one that it uses does, and why each may
     "names": {
-        "mr_world_script Side mr_bytes": "of a link, as scripts call it; there of an item",
-        "mr_world_parts Side mr_bytes": "of a link, as the specification calls it; there of an item",
         "mr_loop Links mr_links": "a loop's, by sockets; there of a node, of any kind",
         "mr_wire Failed mr_file": "that a wire failed, said in one word as of a file",
     },
@@ -98,6 +119,19 @@ def clauses_in(text):
             yield row
 
 
+def parameters_in(text):
+    """The functions of a text, with how many parameters each has."""
+    heads = (it for it in re.finditer(FUNCTION.pattern + r"(?:<(?:[^<>()-]|->|<[^<>]*>|\([^)]*\))*>)?\(", re.sub(r"//.*", "", text), re.M))
+    for head in heads:
+        count, depth, some = 0, 0, False
+        for sign, before in zip(head.string[head.end() :], head.string[head.end() - 1 :]):
+            if sign in ")" and not depth:
+                break
+            depth += (sign in "([{<") - (sign in ")]}" or sign == ">" and before != "-")
+            count, some = (count + 1, False) if sign == "," and not depth else (count, some or not sign.isspace())
+        yield head[2], count + some
+
+
 def exported(text):
     """The types that the root file of a crate exports, without those of other crates that it hands on."""
     return {name for module, names in EXPORT.findall(text) if not module.startswith("mr_") for name in re.findall(r"\b[A-Z]\w*[a-z]\w*\b", names)}
@@ -134,6 +168,13 @@ class Style(unittest.TestCase):
     def test_no_function_is_long(self):
         self.assertEqual(past({it: len(rows) for it, rows in self.bodies()}, BODY, "bodies"), ({}, []))
 
+    def test_no_function_has_many_parameters(self):
+        most = {}
+        for path in found("crates/*/src/**/*.rt"):
+            for name, count in parameters_in(read(path)):
+                most[f"{path} {name}"] = max(count, most.get(f"{path} {name}", 0))
+        self.assertEqual(past(most, PARAMETERS, "parameters"), ({}, []))
+
     def test_no_function_has_two_loops(self):
         self.assertEqual([it for it, rows in self.bodies() if loops_in(rows) > 1], [])
 
@@ -153,6 +194,10 @@ class Style(unittest.TestCase):
 class Measures(unittest.TestCase):
     def test_what_is_a_loop(self):
         self.assertEqual(loops_in(["    for x in xs {", "        'all: while is_low(x) {", "    loop {", "    formed(x);", "    // for one"]), 3)
+
+    def test_how_many_parameters(self):
+        text = "fn none() {}\npub(crate) fn two<'a, F: Fn(u8) -> u8>(&'a mut self, low: Map<'a, u8>) -> u8\n    fn three(\n        low: fn(u8, u8) -> u8, // a, b\n        (high, x): (u8, u8),\n        y: u8,\n    ) {\n"
+        self.assertEqual(list(parameters_in(text)), [("none", 0), ("two", 2), ("three", 3)])
 
     def test_what_is_a_clause(self):
         rows = ["fn low(x: u8) -> bool", "    requires { x < 3 }", "    ensures low { (y : ℕ) →", "        y ≡ x };", "fn high()", "{", "}"]
