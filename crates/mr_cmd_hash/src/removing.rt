@@ -8,9 +8,9 @@ ghost use Rattle.mr_keyspace.specs.Cuts.{cut};
 ghost use Rattle.mr_cmd_hash.specs.Hashes.{hdel};
 ghost use Rattle.mr_cmd_hash.specs.Commands.{Makes};
 
-use crate::groups::{RemoveFields, take_field};
+use crate::groups::{FieldGroup, end_fields};
 use mr_arguments::{Argument, Words};
-use mr_cmd_shared::{Effects, Group, count};
+use mr_cmd_shared::{Effects, count};
 use mr_map::SliceMap;
 use mr_resp::Reply;
 use mr_value::Hash;
@@ -41,14 +41,14 @@ fn push_removed(
         effects.old ++
         map (made.RemoveFields key.now) (cut (filter (contains_key hash.now) (keys names.now)))) }
 {
-    let mut group = Group::<RemoveFields>::new(effects.alloc(), key.as_slice());
+    let mut group = FieldGroup::new(effects.alloc(), key.as_slice());
     let mut removed = names.len();
     for (field, _) in names.iter() {
         let there = hash.contains(field);
-        take_field(&mut group, field, there, effects)?;
+        group.push(field, there, effects)?;
         removed -= usize::from(!there);
     }
-    group.end(effects)?;
+    end_fields(group, effects)?;
     Ok(removed)
 }
 
@@ -64,9 +64,9 @@ fn remove_field(
         Makes (hdel key.now (field.now ∷ []) hash.now) (view r) effects.old effects.new) }
 {
     let there = hash.contains(field);
-    let mut group = Group::<RemoveFields>::new(effects.alloc(), key.as_slice());
-    take_field(&mut group, field, there, effects)?;
-    group.end(effects)?;
+    let mut group = FieldGroup::new(effects.alloc(), key.as_slice());
+    group.push(field, there, effects)?;
+    end_fields(group, effects)?;
     Ok(count(usize::from(there)))
 }
 

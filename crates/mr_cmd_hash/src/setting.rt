@@ -7,13 +7,13 @@ ghost use Rattle.mr_keyspace.specs.Cuts.{cut};
 ghost use Rattle.mr_cmd_hash.specs.Hashes.{is_value, last_values, fields_reply, hset, hsetnx, number_at, hincrby};
 ghost use Rattle.mr_cmd_hash.specs.Commands.{Makes};
 
-use crate::groups::{SetFields, take_value};
+use crate::groups::{PairGroup, end_pairs};
 use crate::hash_ask::FieldsReply;
 use crate::replies::{no_integer, overflow};
 use itoa::Buffer;
 use mr_arguments::{Argument, WordPairs};
 use mr_bytes::read_i64;
-use mr_cmd_shared::{Effects, Group, count, done, integer};
+use mr_cmd_shared::{Effects, count, done, integer};
 use mr_map::SliceMap;
 use mr_resp::Reply;
 use mr_value::Hash;
@@ -48,14 +48,14 @@ fn push_changed(
         map (made.SetFields key.now)
         (cut (filter (λ p. not (is_value p.1 (get hash.now p.0))) (entries values.now)))) }
 {
-    let mut group = Group::<SetFields>::new(effects.alloc(), key.as_slice());
+    let mut group = PairGroup::new(effects.alloc(), key.as_slice());
     let mut new = values.len();
     for (field, value) in values.iter() {
         let before = hash.get(field);
-        take_value(&mut group, field, value.as_slice(), before, effects)?;
+        group.push(field, value.as_slice(), before, effects)?;
         new -= usize::from(before.is_some());
     }
-    group.end(effects)?;
+    end_pairs(group, effects)?;
     Ok(new)
 }
 
@@ -102,9 +102,9 @@ fn push_pair(
         (cut (if is_value pair.entry.value.now (option_copied before.entry) then []
         else (pair.entry.field.now, pair.entry.value.now) ∷ []))) }
 {
-    let mut group = Group::<SetFields>::new(effects.alloc(), key.as_slice());
-    take_value(&mut group, pair.field, pair.value, before, effects)?;
-    group.end(effects)?;
+    let mut group = PairGroup::new(effects.alloc(), key.as_slice());
+    group.push(pair.field, pair.value, before, effects)?;
+    end_pairs(group, effects)?;
     Ok(())
 }
 

@@ -1,5 +1,5 @@
 -- A group of items grows, and goes into an effect when it is full.
-use Rattle.std.proofs.Common.{ℕ, ◌≡◌, ◌≤◌, List, [], ◌∷◌, ◌++◌, map, length, take, drop, refl, sym, ◌∙◌, ap, subst, append_assoc, append-nil, arith}
+use Rattle.std.proofs.Common.{ℕ, ◌≡◌, ◌≤◌, List, [], ◌∷◌, ◌++◌, map, length, take, drop, refl, sym, ◌∙◌, ap, append_assoc, append-nil, arith}
 use Rattle.std.specs.Prelude.{◌≢◌, ◌==◌, false, Result, Ok, Err, OnOk}
 use Rattle.std.proofs.Math.Seq.{take-append_seam, drop-append_seam}
 use Rattle.std.proofs.Math.ListN.{drop_of_length-le}
@@ -62,10 +62,3 @@ module _ {X : Type 0} (effect : List X → Effect) where
   alone items none group es es1 es2 start t put =
       put ∙ ap (λ g. es1 ++ map effect (cut g)) (sym (append-nil group)) ∙ t.with_rest []
       ∙ ap (λ g. es ++ map effect (cut (g ++ (items ++ [])))) start ∙ ap (λ xs. es ++ map effect (cut xs)) (append-nil items)
-
--- .. at a key
-module _ {X : Type 0} (effect : List ℕ → List X → Effect) where
-  pub alone_at : (key key1 key2 : List ℕ) (items none group : List X) (es es1 es2 : List Effect) → key1 ≡ key → key2 ≡ key1 → none ≡ [] → TakesItems (effect key1) items none group es es1 → es2 ≡ es1 ++ map (effect key2) (cut group) → es2 ≡ es ++ map (effect key) (cut items)
-  alone_at key key1 key2 items none group es es1 es2 same kept start t put =
-      alone (effect key) items none group es es1 es2 start (subst (λ (k : List ℕ). TakesItems (effect k) items none group es es1) same t)
-      (put ∙ ap (λ (k : List ℕ). es1 ++ map (effect k) (cut group)) (kept ∙ same))

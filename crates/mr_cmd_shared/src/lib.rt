@@ -3,7 +3,6 @@
 
 mod choosing;
 mod effects;
-mod groups;
 mod looking;
 mod replies;
 mod sequels;
@@ -11,7 +10,6 @@ mod taken;
 
 pub use choosing::{expired_keys_stand_once, items_are_cut_in_groups};
 pub use effects::Effects;
-pub use groups::{Group, GroupEffect, Items};
 pub use looking::{is_all_live, look, push_dels, see};
 pub use replies::{bulk, count, done, integer, wrong_kind};
 pub use sequels::what_is_left_is_seen;

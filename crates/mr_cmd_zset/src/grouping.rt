@@ -6,9 +6,9 @@ ghost use Rattle.mr_effect.specs.declared.effect.Effect.TheVariants as made;
 ghost use Rattle.mr_keyspace.specs.Cuts.{cut};
 ghost use Rattle.mr_cmd_zset.specs.Scores.{changed, changed_alone};
 
-use crate::groups::{RemoveScores, SetScores, take_member, take_score};
+use crate::groups::{MemberGroup, ScoreGroup, end_members, end_scores};
 use mr_arguments::Argument;
-use mr_cmd_shared::{Effects, Group};
+use mr_cmd_shared::Effects;
 use mr_map::SliceMap;
 use mr_zset::ZSet;
 use std::alloc::AllocError;
@@ -23,11 +23,11 @@ pub fn push_changed(
     ensures { OnOk result (effects.new ≡
         effects.old ++ map (made.SetScores key.now) (cut (changed set.now scores.now))) }
 {
-    let mut group = Group::<SetScores>::new(effects.alloc(), key.as_slice());
+    let mut group = ScoreGroup::new(effects.alloc(), key.as_slice());
     for (member, score) in scores.iter() {
-        take_score(&mut group, member, set.score(member), Some(*score), effects)?;
+        group.push(member, set.score(member), Some(*score), effects)?;
     }
-    group.end(effects)?;
+    end_scores(group, effects)?;
     Ok(())
 }
 
@@ -42,9 +42,9 @@ pub fn push_changed_alone(
     ensures { OnOk result (effects.new ≡
         effects.old ++ map (made.SetScores key.now) (cut (changed_alone member.now before after))) }
 {
-    let mut group = Group::<SetScores>::new(effects.alloc(), key.as_slice());
-    take_score(&mut group, member, before, after, effects)?;
-    group.end(effects)?;
+    let mut group = ScoreGroup::new(effects.alloc(), key.as_slice());
+    group.push(member, before, after, effects)?;
+    end_scores(group, effects)?;
     Ok(())
 }
 
@@ -57,11 +57,11 @@ pub fn push_lost(
     ensures { OnOk result (effects.new ≡
         effects.old ++ map (made.RemoveScores key.now) (cut (lent members.now))) }
 {
-    let mut group = Group::<RemoveScores>::new(effects.alloc(), key.as_slice());
+    let mut group = MemberGroup::new(effects.alloc(), key.as_slice());
     for member in members {
-        take_member(&mut group, member, effects)?;
+        group.push(member, effects)?;
     }
-    group.end(effects)?;
+    end_members(group, effects)?;
     Ok(())
 }
 
@@ -70,11 +70,11 @@ pub fn push_all(key: &Argument<'_>, set: &ZSet, effects: &mut Effects) -> Result
     ensures { OnOk result (effects.new ≡
         effects.old ++ map (made.RemoveScores key.now) (cut (keys set.now))) }
 {
-    let mut group = Group::<RemoveScores>::new(effects.alloc(), key.as_slice());
+    let mut group = MemberGroup::new(effects.alloc(), key.as_slice());
     for (member, _) in set.iter() {
-        take_member(&mut group, member, effects)?;
+        group.push(member, effects)?;
     }
-    group.end(effects)?;
+    end_members(group, effects)?;
     Ok(())
 }
 
@@ -87,8 +87,8 @@ pub fn push_lost_alone(
     ensures { OnOk result (effects.new ≡
         effects.old ++ map (made.RemoveScores key.now) (cut (lost.now ∷ []))) }
 {
-    let mut group = Group::<RemoveScores>::new(effects.alloc(), key.as_slice());
-    take_member(&mut group, lost, effects)?;
-    group.end(effects)?;
+    let mut group = MemberGroup::new(effects.alloc(), key.as_slice());
+    group.push(lost, effects)?;
+    end_members(group, effects)?;
     Ok(())
 }

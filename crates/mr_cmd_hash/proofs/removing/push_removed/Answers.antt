@@ -19,15 +19,15 @@ field_takes k k2 f there b g g2 es es2 same is t =
 pub loop-field-init : goal.loop-field-init
 loop-field-init c = record {
   key = c.new-group.ensures.key ∙ c.as_slice.ensures;
-  pushing = pushing_starts _ _ _ _ _ _ _ _ (c.len-removed.ensures.len ∙ len-entries c.args.names.now ∙ sym (length-map (entries c.args.names.now) (λ e. e.0))) c.new-group.ensures.items
+  pushing = pushing_starts _ _ _ _ _ _ _ _ (c.len-removed.ensures.len ∙ len-entries c.args.names.now ∙ sym (length-map (entries c.args.names.now) (λ e. e.0))) c.new-group.ensures.fields
       (ap (map (λ e. e.0)) (c.into_iter-field-iterator.ensures.into_iter_gives ∙ c.iter-field-items.ensures));
 }
 
 pub loop-field-preserved : goal.loop-field-preserved
 loop-field-preserved c = record {
-  key = c.take_field.ensures.key ∙ c.loop-field.invariant.key;
+  key = c.push.ensures.key ∙ c.loop-field.invariant.key;
   pushing = rw c.from-removed.ensures (pushing_goes _ _ _ _ _ _ _ _ _ _ _ _ c.in-Some.field.now (not c.contains-there.result) c.loop-field.invariant.pushing (ap (map (λ e. e.0)) c.in-Some.ensures.steps) (ap not c.contains-there.ensures)
-      (field_takes _ _ _ _ _ _ _ _ _ c.loop-field.invariant.key c.contains-there.ensures c.in_ok-take_field.ensures.takes));
+      (field_takes _ _ _ _ _ _ _ _ _ c.loop-field.invariant.key c.contains-there.ensures c.in_ok-push.ensures.takes));
 }
 
 pub returns-clause-removed : goal.returns-clause-removed
@@ -45,5 +45,5 @@ returns-clause-small c =
 pub returns-clause-effects : goal.returns-clause-effects
 returns-clause-effects c =
     pushed_effects _ _ _ _ _ _ _ _ _ _ c.loop-field.invariant.pushing (ap (map (λ e. e.0)) c.in-None.ensures.steps.0)
-    (c.in_ok-end.ensures ∙ ap (λ (k : Bytes). c.loop-field.effects ++ map (made.RemoveFields k) (cut c.loop-field.group.items)) c.loop-field.invariant.key)
+    (c.in_ok-end_fields.ensures ∙ ap (λ (k : Bytes). c.loop-field.effects ++ map (made.RemoveFields k) (cut c.loop-field.group.fields)) c.loop-field.invariant.key)
     ∙ ap (λ xs. c.args.effects.now ++ map (made.RemoveFields c.args.key.now) (cut xs)) (filter_passing (contains_key c.args.hash.now) (keys c.args.names.now))

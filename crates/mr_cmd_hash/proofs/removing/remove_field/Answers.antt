@@ -1,10 +1,15 @@
-use Rattle.std.proofs.Common.{◌∙◌}
+use Rattle.std.proofs.Common.{◌≡◌, ◌∙◌, ap, map, ◌++◌}
+use Rattle.mr_map.specs.Bytes.{Bytes}
 use Rattle.mr_effect.specs.declared.effect.Effect.TheVariants as made
-use Rattle.mr_cmd_shared.proofs.GroupLemmas.{alone_at}
+use Rattle.mr_keyspace.specs.Cuts.{cut}
+use Rattle.mr_cmd_shared.proofs.GroupLemmas.{alone}
 use Rattle.mr_cmd_hash.proofs.Single.{field_removed}
 use Rattle.mr_cmd_hash.proofs.removing.remove_field.Goals as goal
 
 pub returns : goal.returns
 returns c =
+    let key : c.new-group.result.key.now ≡ c.args.key.now = c.new-group.ensures.key ∙ c.as_slice.ensures in
+    let takes = rw key at c.in_ok-push.ensures.takes in
     field_removed _ _ c.contains-there.result _ _ _ _ _ c.contains-there.ensures c.from.ensures c.count.ensures
-    (alone_at made.RemoveFields c.args.key.now _ _ _ _ _ _ _ _ (c.new-group.ensures.key ∙ c.as_slice.ensures) c.take_field.ensures.key c.new-group.ensures.items c.in_ok-take_field.ensures.takes c.in_ok-end.ensures)
+    (alone (made.RemoveFields c.args.key.now) _ _ _ _ _ _ c.new-group.ensures.fields takes
+    (c.in_ok-end_fields.ensures ∙ ap (λ (k : Bytes). c.push.new.effects ++ map (made.RemoveFields k) (cut c.push.new.self.fields)) (c.push.ensures.key ∙ key)))

@@ -19,14 +19,14 @@ pair_takes k k2 f v v2 o o2 g g2 es es2 a b c t =
 pub loop-field-init : goal.loop-field-init
 loop-field-init c = record {
   key = c.new-group.ensures.key ∙ c.as_slice.ensures;
-  pushing = pushing_starts _ _ _ _ _ _ _ _ (c.len-new.ensures.len ∙ len-entries c.args.values.now) c.new-group.ensures.items (c.into_iter-field-iterator.ensures.into_iter_gives ∙ c.iter-field-items.ensures);
+  pushing = pushing_starts _ _ _ _ _ _ _ _ (c.len-new.ensures.len ∙ len-entries c.args.values.now) c.new-group.ensures.pairs (c.into_iter-field-iterator.ensures.into_iter_gives ∙ c.iter-field-items.ensures);
 }
 
 pub loop-field-preserved : goal.loop-field-preserved
 loop-field-preserved c = record {
-  key = c.take_value.ensures.key ∙ c.loop-field.invariant.key;
+  key = c.push.ensures.key ∙ c.loop-field.invariant.key;
   pushing = rw c.from-new.ensures (pushing_goes _ _ _ _ _ _ _ _ _ _ _ _ (c.in-Some.field.now, c.in-Some.value.now) c.is_some.result c.loop-field.invariant.pushing (search rules) (c.is_some.ensures ∙ is_some-copied c.get-before.result ∙ ap is_some c.get-before.ensures)
-      (pair_takes _ _ _ _ _ _ _ _ _ _ _ c.loop-field.invariant.key c.as_slice-in-loop-field.ensures c.get-before.ensures c.in_ok-take_value.ensures.takes));
+      (pair_takes _ _ _ _ _ _ _ _ _ _ _ c.loop-field.invariant.key c.as_slice-in-loop-field.ensures c.get-before.ensures c.in_ok-push.ensures.takes));
 }
 
 pub returns-clause-new : goal.returns-clause-new

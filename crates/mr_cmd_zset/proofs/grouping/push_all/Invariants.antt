@@ -7,5 +7,5 @@ use Rattle.mr_cmd_zset.proofs.grouping.push_all.Given as goal
 abbrev pub invariant-loop-member : goal.invariant-loop-member
 invariant-loop-member l = record {
   key : l.group.key.now ≡ l.key;
-  pushing : IsPushing (made.RemoveScores l.key) (λ e. e.0 ∷ []) (entries l.set) l.initial.effects l.effects l.group.items l.member-iterator;
+  pushing : IsPushing (made.RemoveScores l.key) (λ e. e.0 ∷ []) (entries l.set) l.initial.effects l.effects l.group.members l.member-iterator;
 }

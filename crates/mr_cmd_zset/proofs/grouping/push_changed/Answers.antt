@@ -10,5 +10,5 @@ use Rattle.mr_cmd_zset.proofs.grouping.push_changed.Goals as goal
 pub returns : goal.returns
 returns c =
     pushing_ends (made.SetScores c.args.key.now) (alone c.args.set.now) (entries c.args.scores.now) _ _ _ _ _ c.loop-member.invariant.pushing c.in-None.ensures.steps.0
-    (c.in_ok-end.ensures ∙ ap (λ (k : Bytes). c.loop-member.effects ++ map (made.SetScores k) (cut c.loop-member.group.items)) c.loop-member.invariant.key)
+    (c.in_ok-end_scores.ensures ∙ ap (λ (k : Bytes). c.loop-member.effects ++ map (made.SetScores k) (cut c.loop-member.group.scores)) c.loop-member.invariant.key)
     ∙ ap (λ ps. c.args.effects.now ++ map (made.SetScores c.args.key.now) (cut ps)) (sym (changed_alones c.args.set.now c.args.scores.now))

@@ -6,5 +6,5 @@ use Rattle.mr_cmd_zset.proofs.grouping.push_lost.Given as goal
 abbrev pub invariant-loop-member : goal.invariant-loop-member
 invariant-loop-member l = record {
   key : l.group.key.now ≡ l.key;
-  pushing : IsPushing (made.RemoveScores l.key) (λ m. m.now ∷ []) l.members l.initial.effects l.effects l.group.items (drop l.member-index l.members);
+  pushing : IsPushing (made.RemoveScores l.key) (λ m. m.now ∷ []) l.members l.initial.effects l.effects l.group.members (drop l.member-index l.members);
 }

@@ -1,7 +1,13 @@
-use Rattle.std.proofs.Common.{◌∙◌}
+use Rattle.std.proofs.Common.{◌≡◌, ◌∙◌, ap, map, ◌++◌}
+use Rattle.mr_map.specs.Bytes.{Bytes}
 use Rattle.mr_effect.specs.declared.effect.Effect.TheVariants as made
-use Rattle.mr_cmd_shared.proofs.GroupLemmas.{alone_at}
+use Rattle.mr_keyspace.specs.Cuts.{cut}
+use Rattle.mr_cmd_shared.proofs.GroupLemmas.{alone}
 use Rattle.mr_cmd_zset.proofs.grouping.push_lost_alone.Goals as goal
 
 pub returns : goal.returns
-returns c = alone_at made.RemoveScores c.args.key.now _ _ _ _ _ _ _ _ (c.new-group.ensures.key ∙ c.as_slice.ensures) c.take_member.ensures.key c.new-group.ensures.items c.in_ok-take_member.ensures.takes c.in_ok-end.ensures
+returns c =
+    let key : c.new-group.result.key.now ≡ c.args.key.now = c.new-group.ensures.key ∙ c.as_slice.ensures in
+    let takes = rw key at c.in_ok-push.ensures.takes in
+    alone (made.RemoveScores c.args.key.now) _ _ _ _ _ _ c.new-group.ensures.members takes
+    (c.in_ok-end_members.ensures ∙ ap (λ (k : Bytes). c.push.new.effects ++ map (made.RemoveScores k) (cut c.push.new.self.members)) (c.push.ensures.key ∙ key))
